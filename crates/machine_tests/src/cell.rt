@@ -163,11 +163,11 @@ const ADDED: Done = Done {
 
 #[test]
 fn what_was_done_says_what_it_found(rt: HostRuntime) {
-    let added = Done::at(TAIL, OPEN_2, Answer::Found(OPEN_2), Wrote::Place);
+    let added = Done::of_operation(TAIL, OPEN_2, Answer::Found(OPEN_2), Wrote::Place);
     same(&rt, added, ADDED);
-    let won = Done::at(TAIL, OPEN_2, Answer::Won, Wrote::Place);
+    let won = Done::of_operation(TAIL, OPEN_2, Answer::Won, Wrote::Place);
     same(&rt, Done::of_cas(TAIL, OPEN_2, true, Wrote::Place), won);
-    let lost = Done::at(TAIL, OPEN_2, Answer::Lost, Wrote::Nothing);
+    let lost = Done::of_operation(TAIL, OPEN_2, Answer::Lost, Wrote::Nothing);
     same(&rt, Done::of_cas(TAIL, OPEN_2, false, Wrote::Place), lost);
 }
 

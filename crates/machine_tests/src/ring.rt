@@ -164,7 +164,7 @@ fn an_operation_is_done_and_put_back_at_its_place(rt: HostRuntime) {
     let mut segment = Segment::<4>::fresh();
     let place = Place::Head(ROOT);
     let found = Content::Number(0);
-    let done = Done::at(place, found, Answer::Found(found), Wrote::Place);
+    let done = Done::of_operation(place, found, Answer::Found(found), Wrote::Place);
     same(&rt, segment.operate(place, Operation::Add), Ok(done));
     same(&rt, segment.content(place), Some(Content::Number(1)));
     segment.restore(place, found);
@@ -195,7 +195,7 @@ fn a_swap_of_a_cell_writes_the_halves_that_it_may_change(rt: HostRuntime) {
         let mut segment = Segment::<4>::fresh();
         segment.restore_cell(2, MARKED);
         let (old, new, answer, wrote, left) = *row;
-        let done = Done::at(place, Content::Cell(MARKED), answer, wrote);
+        let done = Done::of_operation(place, Content::Cell(MARKED), answer, wrote);
         let swap = Operation::Cas2 { old, new };
         same_at(&rt, segment.operate(place, swap), Ok(done), row);
         same_at(&rt, segment.cell(2), Some(left), row);
@@ -225,7 +225,7 @@ fn a_half_of_a_cell_is_read_and_put_back_alone(rt: HostRuntime) {
     let answer = read.map(|done| done.answer);
     same(&rt, answer, Ok(Answer::Value(Some(7))));
     let read = segment.operate(index, Operation::ReadSafeAndIndex);
-    let done = Done::at(index, INDEX, FOUND_INDEX, Wrote::Nothing);
+    let done = Done::of_operation(index, INDEX, FOUND_INDEX, Wrote::Nothing);
     same(&rt, read, Ok(done));
     let refused = segment.operate(value, Operation::ReadSafeAndIndex);
     same(&rt, refused, Err(Refusal::NoSuchPlace));

@@ -67,7 +67,7 @@ const OPEN_1: Content = Content::Tail {
 #[test]
 fn an_add_says_what_it_found(rt: HostRuntime) -> Result<(), Fail> {
     let mut space = Space::<4>::fresh(rt.alloc(), 2)?;
-    let done = Done::at(TAIL, OPEN_0, Answer::Found(OPEN_0), Wrote::Place);
+    let done = Done::of_operation(TAIL, OPEN_0, Answer::Found(OPEN_0), Wrote::Place);
     same(&rt, space.operate(TAIL, Operation::Add), Ok(done));
     same(&rt, space.content(TAIL), Some(OPEN_1));
     let refused = space.operate(Place::Tail(UNMADE), Operation::Add);
@@ -226,7 +226,7 @@ fn an_operation_on_the_array_is_done(rt: HostRuntime) -> Result<(), Fail> {
     let place = Place::ArrCell(63);
     let seven = ArrSlot::Value(7);
     let found = Content::Slot(ArrSlot::Empty);
-    let done = Done::at(place, found, Answer::Found(found), Wrote::Place);
+    let done = Done::of_operation(place, found, Answer::Found(found), Wrote::Place);
     same(&rt, space.operate(place, Operation::Swap(seven)), Ok(done));
     same(&rt, space.content(place), Some(Content::Slot(seven)));
     let past = space.operate(Place::ArrCell(64), Operation::Swap(ArrSlot::Top));

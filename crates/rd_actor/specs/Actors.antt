@@ -13,7 +13,8 @@ abbrev pub idle : Actor
 idle =
     record { pc = Idle; op = None; crq = root; new = root; next = root; t = 0; h = 0; closed = false; val = None; safe = false; idx = 0; pass = 0 }
 
--- the record of an actor in an enqueue of this value, whose next step draws a position on the root
+-- the record of an actor in an enqueue of this value, whose next step draws a position on the root;
+-- its other words are idle ones
 abbrev pub poised : ℕ → Actor
 poised value = record idle { pc = E4; op = Some (op.Enq value) }
 

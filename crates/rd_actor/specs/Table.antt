@@ -1,5 +1,7 @@
 -- The table of control points, one row for each control point: the access for which an actor asks
--- there, and how it goes on.
+-- there, and how it goes on. The words of an actor `a` are explained at `Actor` in src/actors.rt:
+-- `a.crq` is the segment on which it works, `a.t` a tail counter that it read, and `a.h` a head
+-- counter.
 use Rattle.std.specs.Prelude.{ℕ, ◌+◌, ◌%◌, ◌^◌, ◌<◌, Bool, true, false, ◌==◌, ◌&&◌, ◌||◌, nat_lt, nat_le, if◌then◌else◌, Option, Some, None, is_some, is_none, Result, Ok, Err}
 use Rattle.std.specs.Bool.{beq}
 use Rattle.rd_cell.specs.declared.places.Place.TheVariants as place
@@ -71,12 +73,14 @@ need_at R B2 a = Ok (At (place.ArrCell a.h) (Swap slot.Top))
 need_at R B3 a = Ok (At place.ArrTail Read)
 need_at R Idle a = Err refusal.Idle
 
--- the access of a call at this control point: none, and refused unless the actor is idle
+-- the access of a call at this control point: none at Idle; elsewhere the call is refused with
+-- `NotIdle`
 abbrev pub need_for_call : Pc → Result Access Refusal
 need_for_call Idle = Ok NoPlace
 need_for_call _ = Err refusal.NotIdle
 
--- the access of a choice at this control point: none, and refused except at E10
+-- the access of a choice at this control point: none at E10; elsewhere the choice is refused, with
+-- `Idle` at Idle, else with `NoChoice`
 abbrev pub need_for_choice : Pc → Result Access Refusal
 need_for_choice Idle = Err refusal.Idle
 need_for_choice E10 = Ok NoPlace
@@ -89,7 +93,8 @@ need R a (act.Starve b) = need_for_choice a.pc
 need R a _ = need_for_call a.pc
 
 -- the numbers in this row's access fit the words of the program: the index of a cell's next round
--- is below 2^64 (Q5, Q7), and the number of an array slot is a byte (A2, B2)
+-- is below 2^64 (Q5, Q7), and the number of an array slot is a byte (A2, B2). In all other rows
+-- they fit anyway, for rings of at most 64 cells
 abbrev pub IsRepresentableAt : ℕ → Pc → Actor → Type 0
 IsRepresentableAt R Q5 a = a.h + R < 2 ^ 64
 IsRepresentableAt R Q7 a = a.h + R < 2 ^ 64
@@ -103,27 +108,27 @@ abbrev pub IsRepresentable : ℕ → Actor → Act → Type 0
 IsRepresentable R a act.Go = IsRepresentableAt R a.pc a
 IsRepresentable R a _ = Unit {0}
 
--- the control point after a pass that found its segment empty: Q13, which reads the next segment,
--- after pass 1, and Q14, which moves the queue's head, after pass 2
+-- the control point after a pass that found its segment empty: after pass 1 Q13, which reads the
+-- next segment, otherwise (after pass 2) Q14, which moves the queue's head
 abbrev pub pc_after_empty_pass : Actor → Pc
 pc_after_empty_pass a = if a.pass == 1 then Q13 else Q14
 
 -- the record of an enqueue that read a cell's safe bit and index. It tries the cell if the cell is
--- empty and its index is at most the position: at once if the cell is safe, else after a look at
--- the head
+-- empty and its index is at most the position: at once if the cell is safe (E8), else after a look
+-- at the head (E7). It passes by any other cell, and looks whether the ring is full (E9)
 abbrev pub after_enqueue_reads_index : Actor → Bool → ℕ → Actor
 after_enqueue_reads_index a safe idx =
     record a { safe = safe; idx = idx; pc = if is_none a.val && nat_le idx a.t then (if safe then E8 else E7) else E9 }
 
--- the record of a dequeue that read a cell's safe bit and index. It takes the value of its
--- position, marks the cell unsafe if the value is older, and moves an empty cell on to the next
--- round. It passes by a cell whose index is past its position
+-- the record of a dequeue that read a cell's safe bit and index. It goes on to take the value of
+-- its position (Q5), to mark the cell unsafe if the value is older (Q6), or to move an empty cell
+-- on to the next round (Q7). It passes by a cell whose index is past its position (Q8)
 abbrev pub after_dequeue_reads_index : Actor → Bool → ℕ → Actor
 after_dequeue_reads_index a safe idx =
     record a { safe = safe; idx = idx; pc = if nat_lt a.h idx then Q8 else (if is_some a.val then (if idx == a.h then Q5 else Q6) else Q7) }
 
--- the record of a repair that read the tail again: it starts over if the tail changed, ends if the
--- tail is closed or at least the head, and else tries to raise it
+-- the record of a repair that read the tail again: it starts over if the tail changed (Q9), ends if
+-- the tail is closed or at least the head, and else tries to raise it (Q12)
 abbrev pub after_repair_check : Actor → Bool → ℕ → Actor
 after_repair_check a closed count =
     record a { pc = if beq closed a.closed && (count == a.t) then (if a.closed || nat_le a.h a.t then pc_after_empty_pass a else Q12) else Q9 }
@@ -135,9 +140,9 @@ after_take (Some v) a = (idle, Some (op_reply.Value v))
 after_take None a = (a, None)
 
 -- the next record of an actor that goes on from this control point with an answer, and its reply if
--- its call is over. The last row, which changes nothing, is for answers that a row's access never
--- gives. No step of a well-formed world comes to it, since each leads to another control point
--- (`laws::steps_move_their_actors` of rd_step)
+-- its call is over. The last row, which changes nothing, is for Idle and E10, which have no access,
+-- and for answers that a row's access never gives. No step of a well-formed world comes to it,
+-- since each leads to another control point (`laws::steps_move_their_actors` of rd_step)
 abbrev pub after_at : ℕ → Pc → Actor → Answer → Actor × Option OpReply
 after_at R E1 a (answer.Found (content.Name s)) = (record a { crq = s; pc = E2 }, None)
 after_at R E2 a (answer.Found (content.Next (Some m))) = (record a { next = m; pc = E3 }, None)
@@ -191,7 +196,8 @@ after_at R B2 a (answer.Found (content.Slot _)) = (record a { pc = B3 }, None)
 after_at R B3 a (answer.Found (content.Number u)) = if nat_le u (a.h + 1) then (idle, Some op_reply.Empty) else (record a { pc = B1 }, None)
 after_at R _ a _ = (a, None)
 
--- the actor's next record after this act and answer, and its reply if its call is over
+-- the actor's next record after this act and answer, over rings of R cells, and its reply if its
+-- call is over
 abbrev pub after : ℕ → Actor → Act → Answer → Actor × Option OpReply
 after R a (act.Enq x) _ = (calling E1 (op.Enq x), None)
 after R a act.Deq _ = (calling Q1 op.Deq, None)

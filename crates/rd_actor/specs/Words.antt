@@ -1,4 +1,5 @@
--- Which words fit an actor's control point, one row for each control point.
+-- Which words fit an actor's control point, one row for each control point. `Actor` in
+-- src/actors.rt explains the words.
 use Rattle.std.specs.Prelude.{Bool, true, false, not, ◌==◌, ◌&&◌, ◌||◌, nat_lt, nat_le, Option, Some, is_some, is_none}
 use Rattle.rd_cell.specs.declared.limits.TheConstants.{SLOTS}
 use Rattle.rd_cell.specs.Places.{root, name_eq}
@@ -34,11 +35,11 @@ has_idle_words a =
     is_none a.op && name_eq a.crq root && name_eq a.new root && name_eq a.next root && (a.t == 0) && (a.h == 0)
     && not a.closed && is_none a.val && not a.safe && (a.idx == 0) && (a.pass == 0)
 
--- whether the actor is in an enqueue, with pass 0
+-- whether the actor is in an enqueue that is not on the array, with pass 0
 abbrev pub is_in_enqueue : Actor → Bool
 is_in_enqueue a = is_enqueue a.op && (a.pass == 0)
 
--- whether the actor is in a dequeue, in pass 1 or 2 over its segment
+-- whether the actor is in a dequeue that is not on the array, in pass 1 or 2 over its segment
 abbrev pub is_in_pass : Actor → Bool
 is_in_pass a = is_dequeue a.op && ((a.pass == 1) || (a.pass == 2))
 

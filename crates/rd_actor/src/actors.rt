@@ -182,7 +182,7 @@ impl Actor {
     }
 
     /// Returns the record of an actor in an enqueue of this value, about to draw a position from
-    /// the root's tail.
+    /// the root's tail. Its other words are those of the idle record.
     pub fn poised(value: u64) -> Actor
         ensures { result ≡ poised value }
     {

@@ -319,8 +319,8 @@ impl Actor {
         }
     }
 
-    /// Returns the record after Q2 or Q10: the actor drew or read this head counter, and goes on to
-    /// `pc`.
+    /// Returns the record after Q2, Q10 or B1: the actor drew or read this head counter, and goes
+    /// on to `pc`.
     fn with_head(&self, head: u64, pc: Pc) -> Actor
         ensures { result ≡ record self.now { h = head; pc = pc } }
     {
@@ -505,8 +505,8 @@ impl Actor {
     }
 
     /// Returns the operation of Q5 and Q7: a CAS2 from the cell that was read, with this value or
-    /// none, to an empty cell at the index of the next round. An index of 2^64 or more, which no
-    /// well-formed world has, becomes 2^64 - 1.
+    /// none, to an empty cell with the same safe bit, whose index is the actor's position plus `R`.
+    /// An index of 2^64 or more, which no well-formed world has, becomes 2^64 - 1.
     fn cas2_to_move_on<const R: usize>(&self, val: Option<u64>) -> Operation
         requires { R ≤ MOST_CELLS }
         ensures { self.now.h + R < 2 ^ 64

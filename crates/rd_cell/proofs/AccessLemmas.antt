@@ -74,8 +74,8 @@ contents_after-commutes d e at h = fun_ext (λ r. contents_after-commutes-at d e
 
 -- A maker's makings are independent of other makers
 
--- P holds of a place's content after an operation, if it held before, and holds of the place's
--- share of what the operation writes, of which K holds
+-- if K holds of what an operation writes, P holds of a place's content after it, if P held before
+-- and holds of the place's share of each content of which K holds
 pub holds_after_effect : (P : Option Content → Type 0) (K : Content → Type 0) (p : Place) (c : Content) (e : Effect) (at : Contents) (q : Place) → P (at q)
     → IfSome e.writes K → ((d : Content) → K d → covers p q ≡ true → P (share p (Some d) q)) → P (contents_after (performed_at p c e) at q)
 holds_after_effect P K p c e at q was writes new = by e.writes writes

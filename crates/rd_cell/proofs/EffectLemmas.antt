@@ -1,5 +1,5 @@
 -- An effect that is known at some of the places, as an effect on all places.
-use Rattle.rd_cell.proofs.Prelude.{Wrote, both_ways, false_from_ne_true, some_covers, common_steps, ◌≡◌, true, false, Bool, inl, inr, sym, ◌∙◌, Option, Some, None, Result, Ok, Err, IfOk, arith, cases_Bool, IfOk-at_ok, SegName, Content, Operation, Refusal, is_of_segment, place_eq, is_of_same_segment, covers, segment_of, written, Contents, restore, operand, effect, Performed, operate, HasEffect, everywhere, Operates, OperatesOn, Restores, subst}
+use Rattle.rd_cell.proofs.Prelude.{Wrote, both_ways, false_from_ne_true, some_covers, common_steps, ◌≡◌, true, false, Bool, inl, inr, sym, ◌∙◌, Option, Some, None, Result, Ok, Err, IfOk, arith, cases_Bool, IfOk-at_ok, SegName, Content, Operation, Refusal, is_of_segment, place_eq, is_of_same_segment, covers, segment_of, written, Contents, restore, operand, effect, Performed, operate, HasEffect, everywhere, Operates, OperatesOnContent, Restores, subst}
 use Rattle.rd_cell.specs.declared.places.Place.{Place}
 use Rattle.rd_cell.specs.declared.places.Wrote.TheVariants as wrote
 use Rattle.rd_cell.specs.declared.operations.Answer.{Answer}
@@ -68,10 +68,10 @@ narrow_effect looked_at does done old new h = grind arith
 -- One place
 
 -- an operation that writes nothing is done at a place that keeps its content
-pub OperatesOn-read : (p : Place) (op : Operation) (old : Content) (answer : Answer) (done : Done)
+pub OperatesOnContent-read : (p : Place) (op : Operation) (old : Content) (answer : Answer) (done : Done)
     → effect op old ≡ Ok (record { answer = answer; writes = None }) → done ≡ record { place = Some p; old = Some old; answer = answer; wrote = wrote.Nothing }
-    → OperatesOn p op done old old
-OperatesOn-read p op old answer done does notes = grind arith
+    → OperatesOnContent p op done old old
+OperatesOnContent-read p op old answer done does notes = grind arith
 
 -- the contents before and after a change of p alone agree with p's own old and new content
 pub agrees_at : (p : Place) (was now : Content) (old new : Contents) → ((q : Place) → covers p q ≡ place_eq p q) → old p ≡ Some was → new p ≡ Some now
@@ -82,10 +82,10 @@ agrees_at p was now old new plain found left others = grind (arith, common_steps
 -- it was
 pub Operates-from_OperatesOn : (x p : Place) (op : Operation) (was now : Content) (old new : Contents) → p ≡ x → ((q : Place) → covers x q ≡ place_eq x q)
     → operand old x ≡ Some was → old x ≡ Some was → new x ≡ Some now → ((q : Place) → place_eq x q ≡ false → new q ≡ old q)
-    → (r : Result Done Refusal) → IfOk r (λ done. OperatesOn p op done was now) → IfOk r (λ done. Operates everywhere p op done old new)
+    → (r : Result Done Refusal) → IfOk r (λ done. OperatesOnContent p op done was now) → IfOk r (λ done. Operates everywhere p op done old new)
 Operates-from_OperatesOn x p op was now old new at plain works found left others (Err e) h = tt
 Operates-from_OperatesOn x p op was now old new at plain works found left others (Ok done) h =
-    subst (λ (y : Place). OperatesOn y op done was now → Operates everywhere y op done old new) (sym at)
+    subst (λ (y : Place). OperatesOnContent y op done was now → Operates everywhere y op done old new) (sym at)
     (λ does. lift_operation (place_eq x) x op (Some was) done (λ q. Some was) (λ q. Some now) old new works (agrees_at x was now old new plain found left others) does) h
 
 -- The places of one segment

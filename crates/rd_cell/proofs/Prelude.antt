@@ -31,7 +31,7 @@ pub use denote.RattleType.{RattleType}
 pub use denote.Struct.Declared.{shape}
 pub use mathlib.Core.Logic.{∥∥₁_map}
 pub use mathlib.Core.Path.{fun_ext}
-pub use Rattle.rd_cell.specs.Access.{HasEffect, Operates, OperatesOn, Performed, Restores, contents_after, performed_at, everywhere, make, no_access, operate, perform}
+pub use Rattle.rd_cell.specs.Access.{HasEffect, Operates, OperatesOnContent, Performed, Restores, contents_after, performed_at, everywhere, make, no_access, operate, perform}
 unfoldable pub use Rattle.rd_cell.specs.Access.{number_made, number_made_from}
 pub use Rattle.rd_cell.specs.Contents.{Contents, after_write, after_some_write, cell_of_halves, segment_holding, operand, restore, share}
 pub use Rattle.rd_cell.specs.Operations.{Effect, adds, effect, read_answer, compares_and_swaps, wrote_by}

@@ -1,5 +1,5 @@
--- Cells: equality, and the cells of a new segment.
-use Rattle.std.specs.Prelude.{ℕ, Bool, true, ◌==◌, ◌&&◌, Option}
+-- Cells: equality, and the cells of a fresh segment.
+use Rattle.std.specs.Prelude.{ℕ, Bool, true, ◌==◌, ◌&&◌, Option, None}
 use Rattle.std.specs.Bool.{beq}
 use Rattle.std.specs.Option.{option_eq}
 use Rattle.rd_cell.specs.declared.cells.Cell.{Cell}
@@ -12,6 +12,6 @@ cell_eq a b = beq a.safe b.safe && (a.idx == b.idx) && option_eq ◌==◌ a.val 
 abbrev pub cell_with : Bool → ℕ → Option ℕ → Cell
 cell_with safe idx val = record { safe = safe; idx = idx; val = val }
 
--- cell u of a new segment, with this value or none: it is safe and has index u
-abbrev pub new_cell : ℕ → Option ℕ → Cell
-new_cell u val = cell_with true u val
+-- cell u of a fresh segment: it is safe and empty, and has index u
+abbrev pub fresh_cell : ℕ → Cell
+fresh_cell u = cell_with true u None

@@ -19,8 +19,8 @@ Contents = Place → Option Content
 abbrev pub after_write : Place → Contents → Contents → Contents
 after_write p given at q = if covers p q then given q else at q
 
--- the part of a cell that each place holds: the value at a value half, safe bit and index at an
--- index half, and nothing elsewhere
+-- the part of a cell that each place holds: the value at every value half, safe bit and index at
+-- every index half, and nothing elsewhere
 abbrev pub cell_halves : Cell → Contents
 cell_halves c (place.Val s i) = Some (content.Val c.val)
 cell_halves c (place.Idx s i) = Some (content.Idx c.safe c.idx)
@@ -82,13 +82,14 @@ can_hold _ _ = false
 abbrev pub is_there : Contents → SegName → Bool
 is_there at s = is_some (at (place.Head s))
 
--- what a query shows at a place: its `operand`, or `Whole` for a segment that is there
+-- what a query shows at a place: its `operand`; at the whole of a segment, `Whole` if the segment
+-- is there, else none
 abbrev pub content_at : Contents → Place → Option Content
 content_at at (place.Whole s) = if is_there at s then Some content.Whole else None
 content_at at p = operand at p
 
--- the content of each place of a fresh segment with R cells: its counters are 0, it is open and has
--- no next, and each cell u is empty and safe, with index u
+-- the content of each place of a fresh segment with R cells, whichever segment the place names: its
+-- counters are 0, it is open and has no next, and each cell u is empty and safe, with index u
 abbrev pub fresh_segment : ℕ → Contents
 fresh_segment R (place.Head s) = Some (content.Number 0)
 fresh_segment R (place.Tail s) = Some (content.Tail false 0)

@@ -19,7 +19,7 @@ use Rattle.rd_cell.specs.Places.{name_eq, is_of_array}
 use Rattle.rd_cell.specs.Cells.{cell_eq}
 
 -- what an operation does to one content: its `answer`, and the content that it `writes`, or none if
--- it only reads
+-- it writes nothing
 pub record Effect : Type 0 where
   pub answer : Answer
   pub writes : Option Content
@@ -40,7 +40,8 @@ cas_answer won = if won then answer.Won else answer.Lost
 abbrev pub cas_wrote : Bool → Wrote → Wrote
 cas_wrote won written = if won then written else wrote.Nothing
 
--- the effect of a compare-and-swap: if it `won`, it writes this content, else it writes nothing
+-- the effect of a compare-and-swap: if it `won`, it answers `Won` and writes this content, else it
+-- answers `Lost` and writes nothing
 abbrev pub compares_and_swaps : Bool → Content → Result Effect Refusal
 compares_and_swaps won c = if won then writes answer.Won c else reads answer.Lost
 
@@ -49,8 +50,9 @@ compares_and_swaps won c = if won then writes answer.Won c else reads answer.Los
 abbrev pub adds : ℕ → ℕ → Refusal → Content → Content → Result Effect Refusal
 adds limit n cause old new = if nat_lt n limit then writes (answer.Found old) new else Err cause
 
--- the effect of an operation on a content; `NoSuchPlace` on a content of another kind, for which no
--- well-formed world asks
+-- the effect of an operation on a content; `CounterEnd` or `ArrayEnd` for a fetch-and-add on a
+-- counter at its end; `NoSuchPlace` on a content of another kind, for which no well-formed world
+-- asks
 abbrev pub effect : Operation → Content → Result Effect Refusal
 effect Read (content.Name s) = reads (answer.Found (content.Name s))
 effect Read (content.Number n) = reads (answer.Found (content.Number n))
@@ -75,8 +77,8 @@ effect _ _ = Err refusal.NoSuchPlace
 abbrev pub wrote_cell : Words → Words → Wrote
 wrote_cell old new = if option_eq ◌==◌ old.val new.val then wrote.Index else wrote.Place
 
--- which part of its place an operation wrote over this old content: nothing if it only read, the
--- index half alone of a cell that keeps its value, else all
+-- which part of its place an operation wrote that found this old content and wrote this new one:
+-- nothing without a new one, the index half alone of a cell that keeps its value, else all
 abbrev pub wrote_by : Content → Option Content → Wrote
 wrote_by old None = wrote.Nothing
 wrote_by (content.Cell old) (Some (content.Cell new)) = wrote_cell old new

@@ -86,7 +86,7 @@ overlaps p q = covers p q || covers q p
 abbrev pub some_covers : Option Place → Place → Bool
 some_covers o q = option_map_or (λ p. covers p q) o false
 
--- whether two places overlap; false unless both are there
+-- whether two places overlap; false unless both are given
 abbrev pub some_overlap : Option Place → Option Place → Bool
 some_overlap (Some p) (Some q) = overlaps p q
 some_overlap _ _ = false
@@ -108,6 +108,7 @@ written o wrote.Nothing = None
 written o wrote.Place = o
 written o wrote.Index = option_map index_half o
 
--- whether two accesses interfere: one of them wrote a place that the other touched
+-- whether two accesses, each given by its place and what it wrote there, interfere: one of them
+-- wrote a place that the other touched
 abbrev pub interfere : Option Place → Wrote → Option Place → Wrote → Bool
 interfere p v q w = some_overlap (written p v) q || some_overlap p (written q w)

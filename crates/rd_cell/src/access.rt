@@ -68,7 +68,7 @@ impl Done {
 
     /// Returns the record of an operation: its place, the content that it found there, its answer,
     /// and which part of the place it wrote.
-    pub fn at(place: Place, found: Content, answer: Answer, wrote: Wrote) -> Done
+    pub fn of_operation(place: Place, found: Content, answer: Answer, wrote: Wrote) -> Done
         ensures { result ≡ record {
           place = Some place;
           old = Some found;
@@ -100,6 +100,6 @@ impl Done {
         } else {
             (Answer::Lost, Wrote::Nothing)
         };
-        Done::at(place, found, answer, wrote)
+        Done::of_operation(place, found, answer, wrote)
     }
 }

@@ -2,7 +2,7 @@
 
 ghost use Rattle.std.specs.Prelude.{◌≡◌, ◌↔◌, None, IsTrue};
 ghost use Rattle.std.specs.Bool.{OnTrue, OnFalse};
-ghost use Rattle.rd_cell.specs.Cells.{new_cell};
+ghost use Rattle.rd_cell.specs.Cells.{fresh_cell};
 ghost use Rattle.rd_cell.specs.Operations.{wrote_cell};
 
 use super::places::Wrote;
@@ -21,7 +21,7 @@ pub struct Cell {
 impl Cell {
     /// Returns the cell with this index in a fresh segment: it is safe and empty.
     pub fn fresh(index: u64) -> Cell
-        ensures { result ≡ new_cell index None }
+        ensures { result ≡ fresh_cell index }
     {
         Cell {
             safe: true,

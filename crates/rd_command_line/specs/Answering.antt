@@ -1,5 +1,6 @@
 -- What the program does for the words of a command line, over files and streams. `remaining` gives
--- the bytes that an opened file has left, where they are known.
+-- the bytes that an opened file has left, where they are known, and `text` the text of a word. With
+-- `traced`, a trace follows the report of a run that came to its end.
 use Rattle.std.specs.Prelude.{◌≡◌, ◌≢◌, ◌⊎◌, ℕ, Bool, List, [], ◌∷◌, codes, length, map, Option, IfSome, Result, Ok, Err, Vec}
 use Rattle.std.specs.Global.{Global}
 use Rattle.clap.specs.Walk.{Text}
@@ -30,8 +31,8 @@ AreWholeTexts remaining (opened ∷ files) [] = ⊥
 AreWholeTexts remaining (opened ∷ files) (text ∷ texts) =
     IsWholeText remaining opened text.items × AreWholeTexts remaining files texts
 
--- a file could not be opened, and the output was not used; or it was opened, and the script that is
--- all it has left to give was played over a book in this state
+-- a file could not be opened (`Read`), and the output was not used; or it was opened, and the
+-- script that is all it has left to give was played over a book in this state
 abbrev pub PlaysFile : {F : Type 0} → (F → Option (List ℕ)) → BookState → Bool → Stream → Result ℕ ProgramFault → Type 0
 PlaysFile {F} remaining before traced output result =
     ((result ≡ Err program.Read) × IsUnused output)
@@ -54,16 +55,16 @@ ViewsFiles {F} remaining count before output result =
     ⊎ ((files : List F) × (scripts : List (Vec ℕ Global)) × (length files ≡ count)
     × AreWholeTexts remaining files scripts × ViewsOver before scripts output result)
 
--- what `run` did for a file's name over a book in this state, with a trace after the report if
--- `traced`. For the name `-` it played the script on the input; for any other name it played the
--- script in a file, if that could be opened, and did not use the input
+-- what `run` did for a file's name over a book in this state. For the name `-` it played the script
+-- on the input; for any other name it played the script in a file, if that could be opened, and did
+-- not use the input
 abbrev pub PlaysFileOrInput : {F : Type 0} → (F → Option (List ℕ)) → Text → BookState → Bool → Devices → Result ℕ ProgramFault → Type 0
 PlaysFileOrInput remaining name before traced d result =
     ((name ≡ codes "-") × PlaysScript before traced d result)
     ⊎ ((name ≢ codes "-") × IsUnused d.input × PlaysFile remaining before traced d.output result)
 
 -- what the program did for these options, with this result: `run` and `view` over the options'
--- fresh world, `load` over the book of a trace
+-- fresh world, `load` over the book of a trace. `view` does not use the input
 abbrev pub FollowsOptions : {F : Type 0} → (F → Option (List ℕ)) → Options → Devices → Result ℕ ProgramFault → Type 0
 FollowsOptions remaining (Run file actors ring trace) d result =
     PlaysFileOrInput remaining file.now (fresh_state (ring_length ring) actors) trace d result

@@ -1,4 +1,6 @@
--- The program's command as clap is given it, and which words give which options.
+-- The program's command as clap is given it, and which words give which options. `new_rule` is an
+-- argument, and `new_app` a command, with only a name. `value_names` counts the names that help
+-- shows for an argument's values. A `Row` has what clap found for one argument.
 use Rattle.std.specs.Prelude.{◌≡◌, ◌<◌, ◌≤◌, ◌⊎◌, ℕ, ⊤, true, false, Bool, List, [], ◌∷◌, Option, None, Some, codes, length, map, pos}
 use Rattle.std.specs.Borrow.{Bor}
 use Rattle.std.specs.Str.Parse.{IsNumeral, digits_value, without_leading_plus}
@@ -81,7 +83,8 @@ ValueNamesPair = ValueNames × ValueNames
 abbrev pub BothAreRingSizes : ValueNamesPair → Type 0
 BothAreRingSizes names = AreRingSizes names.0 × AreRingSizes names.1
 
--- the program's command: it has a version, and does nothing without a subcommand
+-- the program's command: it has a version, and requires one of the subcommands `run`, `view` and
+-- `load`
 abbrev pub program_app : ValueNamesPair → App
 program_app names = with_subcommand
     (with_subcommand
@@ -108,23 +111,25 @@ pub record GivesWorld (rows : List Row) (actors : ℕ) (ring : Ring) : Type 0 wh
 abbrev pub GivesFileAndTrace : List Row → Text → Bool → Type 0
 GivesFileAndTrace rows name trace = (first_of (codes "file") rows ≡ Some name) × (first_of (codes "trace") rows ≡ Some (flag_text trace))
 
--- the values that clap found for the arguments of `run` give these options
+-- the values that clap found for the arguments of `run` give these options, which are a `Run`
 abbrev pub GivesRun : List Row → Options → Type 0
 GivesRun rows (Run file actors ring trace) = GivesFileAndTrace rows file.now trace × GivesWorld rows actors ring
 GivesRun rows _ = ⊥
 
--- the values that clap found for the arguments of `view` give these options
+-- the values that clap found for the arguments of `view` give these options, which are a `View`
+-- with at least one file
 abbrev pub GivesView : List Row → Options → Type 0
 GivesView rows (View files actors ring) =
     (all_of (codes "files") rows ≡ Some (map (λ file. file.now) files.items)) × (1 ≤ length files.items) × GivesWorld rows actors ring
 GivesView rows _ = ⊥
 
--- the values that clap found for the arguments of `load` give these options
+-- the values that clap found for the arguments of `load` give these options, which are a `Load`
 abbrev pub GivesLoad : List Row → Options → Type 0
 GivesLoad rows (Load file trace) = GivesFileAndTrace rows file.now trace
 GivesLoad rows _ = ⊥
 
--- clap found a subcommand, and the values for its arguments give these options
+-- clap found a subcommand, by its name (`.0`), and the values for its arguments (`.1`) give these
+-- options
 abbrev pub GivesSubcommand : Option (Text × List Row) → Options → Type 0
 GivesSubcommand None options = ⊥
 GivesSubcommand (Some met) options =

@@ -22,9 +22,12 @@ is_shown _ = false
 abbrev pub EndsWithoutOutput : Result ℕ ProgramFault → ℕ → Bool → Stream → Stream → Type 0
 EndsWithoutOutput done status had_failed output errors = EndsAs done status errors × GetsNothing had_failed output
 
--- how the program ends after an outcome: the status, and what the two streams get, at most one of
--- them a text. The flag says whether standard output had failed before. If memory for a text of
--- clap is refused, the program ends as after `NoMemory`
+-- how the program ends after an outcome: the status, and what the two streams get. The flag says
+-- whether standard output had failed before. After `Ok` and `NoMemory`, it ends as `EndsAs` says.
+-- `Shown` ends with status 0 and a text on standard output, `Refused` with status 2 and a text on
+-- standard error; but if memory for that text is refused, the program ends as after `NoMemory`.
+-- `TooManyFiles` ends with status 2 and its own line on standard error. No stream gets anything
+-- else
 abbrev pub Ends : Outcome → ℕ → Bool → Stream → Stream → Type 0
 Ends (Ok done) status had_failed output errors = EndsWithoutOutput done status had_failed output errors
 Ends (Err NoMemory) status had_failed output errors = EndsWithoutOutput (Err program.NoMemory) status had_failed output errors

@@ -181,10 +181,11 @@ fn play_file<R: Files, O: Sink>(
     play(alloc, &mut ReadSource::new(file), output, setup, trace)
 }
 
-/// Runs the scripts in the files of these names, each by its own viewer, and returns the number of
-/// recorded calls. All files are read before the first command is asked. Fails as `read_files`
-/// does, and the output is then not used, or as `view` does. There must be 1 to 64 names, and the
-/// output must not have failed before.
+/// Runs the scripts in the files of these names over one fresh world, each by its own viewer.
+/// Writes to the output what `view` writes, and returns the number of recorded calls. All files are
+/// read before the first command is asked. Fails as `read_files` does, and the output is then not
+/// used, or as `view` does. There must be 1 to 64 names, and the output must not have failed
+/// before.
 fn view_files<R: Files + Threads + Wait + Sync, O: Sink>(
     rt: &R,
     alloc: Global,

@@ -62,20 +62,20 @@ fn show_options_fault<O: Sink, E: Sink>(
     match fault {
         OptionsFault::Shown(error) => match error.to_string(alloc) {
             Ok(text) => {
-                show(output, text.as_str());
+                show_text(output, text.as_str());
                 ExitCode::from(0)
             }
             Err(_) => rd_program::show_program_fault(&Err(ProgramFault::NoMemory), errors),
         },
         OptionsFault::Refused(error) => match error.to_string(alloc) {
             Ok(text) => {
-                show(errors, text.as_str());
+                show_text(errors, text.as_str());
                 ExitCode::from(2)
             }
             Err(_) => rd_program::show_program_fault(&Err(ProgramFault::NoMemory), errors),
         },
         OptionsFault::TooManyFiles => {
-            show(errors, TOO_MANY_FILES);
+            show_text(errors, TOO_MANY_FILES);
             ExitCode::from(2)
         }
         OptionsFault::NoMemory => rd_program::show_program_fault(
@@ -87,7 +87,7 @@ fn show_options_fault<O: Sink, E: Sink>(
 
 /// Writes a text to a stream that has not failed. If the stream fails, it has taken a beginning of
 /// the text, and the failure is ignored.
-fn show<K: Sink>(stream: &mut K, text: &str)
+fn show_text<K: Sink>(stream: &mut K, text: &str)
     requires { K.has_failed stream.old ≡ false }
     ensures { TakesUnlessFailed (sink_stream K.Sink stream.old stream.new) text.now }
 {

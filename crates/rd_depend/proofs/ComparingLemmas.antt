@@ -1,5 +1,5 @@
 -- A comparison of two runs as it goes on over the steps of the first one.
-use Rattle.rd_depend.proofs.Prelude.{drop_all, drop-cons, Entry, Key, Reached, DecidesEquivalence, Numbered, steps_by_actor, nothing_reached, KeepsOrder, IsOutOfOrder, ◌≡◌, ◌↔◌, ℕ, ◌<◌, ◌≤◌, Bool, false, IsTrue, List, [], ◌∷◌, length, drop, get_or, refl, sym, ap, subst, arith, length-append}
+use Rattle.rd_depend.proofs.Prelude.{drop_all, drop-cons, Entry, Key, Reached, DecidesEquivalence, Numbered, steps_by_actor, nothing_reached, KeepsOrder, IsUnmatched, ◌≡◌, ◌↔◌, ℕ, ◌<◌, ◌≤◌, Bool, false, IsTrue, List, [], ◌∷◌, length, drop, get_or, refl, sym, ap, subst, arith, length-append}
 use Rattle.rd_depend.proofs.KeepingOrder.{kept_taken, taken_kept}
 use Rattle.rd_depend.proofs.RunsAgree.{taken_equivalent, untaken_different}
 
@@ -18,7 +18,7 @@ decided : (a b : List Entry) (same : Bool) → IsTrue same ↔ KeepsOrderOf a b 
 decided a b same h = grind (arith, taken_equivalent, kept_taken, untaken_different, taken_kept)
 
 pub differs_here : (a b : List Entry) (k : ℕ) (d : Entry) (s : Key → Reached) (left : ℕ → List Numbered) → k < length a
-    → IsLeftToCompare a b k s left → IsOutOfOrder (get_or a k d) s left → DecidesEquivalence a b false
+    → IsLeftToCompare a b k s left → IsUnmatched (get_or a k d) s left → DecidesEquivalence a b false
 differs_here a b k d s left within h elsewhere =
     decided a b false (
       λ yes. cc,

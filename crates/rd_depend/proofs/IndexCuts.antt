@@ -1,5 +1,5 @@
 -- Removing the positions above a number from all lists leaves the index of the first entries.
-use Rattle.rd_depend.proofs.Prelude.{◌≡◌, ℕ, suc, ◌+◌, ◌<◌, Bool, nat_lt, List, [], ◌∷◌, take, drop, ap, arith, nat_tests, length-take-le, take-append-drop, Entry, DependIndex, AscendsFrom, before_first, ListKey, positions_from, count_by, touches, IsAscending, kept, capacity, IsIndexOf, GivesRoom}
+use Rattle.rd_depend.proofs.Prelude.{◌≡◌, ℕ, suc, ◌+◌, ◌<◌, Bool, nat_lt, List, [], ◌∷◌, take, drop, ap, arith, nat_tests, length-take-le, take-append-drop, Entry, DependIndex, AscendsFrom, before_first, ListKey, positions_from, count_by, is_listed_for, IsAscending, kept, capacity, IsIndexOf, GivesRoom}
 use Rattle.rd_depend.proofs.IndexLists.{front-cons}
 use Rattle.rd_depend.proofs.IndexPositions.{positions-ascend, count_by-append}
 use Rattle.rd_depend.proofs.IndexFirst.{kept-ascends}
@@ -26,4 +26,4 @@ index-cut old new n cuts len less es is = grind (arith, kept-ascends, positions-
 pub cut_room : (old new : DependIndex) (n : ℕ) → ((es : List Entry) → IsIndexOf old es → IsIndexOf new (take n es)) → ((t : ListKey) → capacity new t ≡ capacity old t)
     → (es : List Entry) → IsIndexOf old es → GivesRoom old new (drop n es)
 cut_room old new n cuts stays es was = λ t.
-    omega (arith, room_stays old new es (take n es) was (cuts es was) stays t, ap (count_by (touches t)) (take-append-drop n es), count_by-append (touches t) (take n es) (drop n es))
+    omega (arith, room_stays old new es (take n es) was (cuts es was) stays t, ap (count_by (is_listed_for t)) (take-append-drop n es), count_by-append (is_listed_for t) (take n es) (drop n es))

@@ -2,7 +2,7 @@
 -- place and its segment.
 use Rattle.std.specs.Prelude.{unwrap_or}
 use Rattle.std.proofs.lemmas.List.Sums.{count_by-le-length}
-use Rattle.rd_depend.proofs.Prelude.{list_any, ◌≡◌, ℕ, suc, ◌+◌, ◌<◌, ◌≤◌, Bool, true, false, not, ◌||◌, ◌==◌, nat_lt, List, [], ◌∷◌, length, drop, Option, Some, None, refl, sym, ap, subst, ◌∙◌, arith, nat_tests, is_some, SegName, Place, some_overlap, is_nothing, written, interfere, Entry, Wrote, position_from, depends, depends_on_any, depends_symmetric, DependIndex, At, In, is_under, is_under_some, search_key, value_key_of_place, whole_key, IsAscending, find, earlier, ListKey, By, touched_or_written, is_value_written, touches, positions_from, positions, kept, IsIndexOf}
+use Rattle.rd_depend.proofs.Prelude.{list_any, ◌≡◌, ℕ, suc, ◌+◌, ◌<◌, ◌≤◌, Bool, true, false, not, ◌||◌, ◌==◌, nat_lt, List, [], ◌∷◌, length, drop, Option, Some, None, refl, sym, ap, subst, ◌∙◌, arith, nat_tests, is_some, SegName, Place, some_overlap, is_nothing, written, interfere, Entry, Wrote, position_from, depends, depends_on_any, depends_symmetric, DependIndex, At, In, is_under, is_under_some, search_key, value_key_of_place, whole_key, IsAscending, find, earlier, ListKey, By, touched_or_written, is_value_written, is_listed_for, positions_from, positions, kept, IsIndexOf}
 use Rattle.rd_depend.proofs.IndexPositions.{positions-number, ascending}
 use Rattle.rd_cell.specs.declared.places.Place.TheVariants as place
 
@@ -76,16 +76,16 @@ overlaps-keys p o = grind (arith, overlaps-whole, overlaps-cell)
 -- the lists of an index
 
 pub kept-ascends : (index : DependIndex) (es : List Entry) → IsIndexOf index es → (t : ListKey) → IsAscending (kept index t)
-kept-ascends index es is t = subst (λ (l : List ℕ). IsAscending l) (sym (is.lists t)) (ascending (touches t) es)
+kept-ascends index es is t = subst (λ (l : List ℕ). IsAscending l) (sym (is.lists t)) (ascending (is_listed_for t) es)
 
 pub kept-short : (index : DependIndex) (es : List Entry) → IsIndexOf index es → (t : ListKey) → length (kept index t) < 131072
-kept-short index es is t = let few = index.few in grind (arith, positions-number, count_by-le-length (touches t) es)
+kept-short index es is t = let few = index.few in grind (arith, positions-number, count_by-le-length (is_listed_for t) es)
 
 -- a step depends on those of its actor, and on those that interfere with its access
-pub depends-some : (x y : Entry) (p : Place) → x.place ≡ Some p → depends x y ≡ (touches (By x.event.actor) y || interfere (Some p) x.wrote y.place y.wrote)
+pub depends-some : (x y : Entry) (p : Place) → x.place ≡ Some p → depends x y ≡ (is_listed_for (By x.event.actor) y || interfere (Some p) x.wrote y.place y.wrote)
 depends-some x y p h = ap (λ (o : Option Place). (x.event.actor == y.event.actor) || interfere o x.wrote y.place y.wrote) h
 
-pub depends-none : (x y : Entry) → x.place ≡ None → touches (By x.event.actor) y ≡ depends x y
+pub depends-none : (x y : Entry) → x.place ≡ None → is_listed_for (By x.event.actor) y ≡ depends x y
 depends-none x y h = grind arith
 
 -- What is written is touched
@@ -97,7 +97,7 @@ under_either p o v = grind arith
 -- what the searches find
 
 pub found_in : (index : DependIndex) (es : List Entry) → IsIndexOf index es → (t : ListKey) (k : ℕ) (r : Option ℕ)
-    → (IsAscending (kept index t) → length (kept index t) < 131072 → r ≡ find (nat_lt k) (kept index t)) → r ≡ find (nat_lt k) (positions (touches t) es)
+    → (IsAscending (kept index t) → length (kept index t) < 131072 → r ≡ find (nat_lt k) (kept index t)) → r ≡ find (nat_lt k) (positions (is_listed_for t) es)
 found_in index es is t k r found = found (kept-ascends index es is t) (kept-short index es is t) ∙ ap (find (nat_lt k)) (is.lists t)
 
 -- whether an access to place p that wrote v of it interferes with this step
@@ -132,20 +132,20 @@ found_at p v k es value own whole both all a b c two three =
     three ∙ (λ i. earlier (a i) (in_two i)) ∙ earlier-first _ rest (meets p v) (λ y. sym (looked p v y)) k es
 
 pub found-with_place : (x : Entry) (p : Place) → x.place ≡ Some p → (k : ℕ) (es : List Entry)
-    → earlier (find (nat_lt k) (positions (touches (By x.event.actor)) es)) (find (nat_lt k) (positions (meets p x.wrote) es))
+    → earlier (find (nat_lt k) (positions (is_listed_for (By x.event.actor)) es)) (find (nat_lt k) (positions (meets p x.wrote) es))
     ≡ find (nat_lt k) (positions (depends x) es)
-found-with_place x p h k es = earlier-first (touches (By x.event.actor)) (meets p x.wrote) (depends x) (λ y. depends-some x y p h) k es
+found-with_place x p h k es = earlier-first (is_listed_for (By x.event.actor)) (meets p x.wrote) (depends x) (λ y. depends-some x y p h) k es
 
 pub found-without_place : (x : Entry) → x.place ≡ None → (k : ℕ) (es : List Entry)
-    → find (nat_lt k) (positions (touches (By x.event.actor)) es) ≡ find (nat_lt k) (positions (depends x) es)
-found-without_place x h k es = ap (find (nat_lt k)) (positions-same (touches (By x.event.actor)) (depends x) (λ y. depends-none x y h) 1 es)
+    → find (nat_lt k) (positions (is_listed_for (By x.event.actor)) es) ≡ find (nat_lt k) (positions (depends x) es)
+found-without_place x h k es = ap (find (nat_lt k)) (positions-same (is_listed_for (By x.event.actor)) (depends x) (λ y. depends-none x y h) 1 es)
 
 -- if a later step of the actor is found, the step depends on one of the later entries
-pub found_of_actor : (x : Entry) (k : ℕ) (es : List Entry) → is_some (find (nat_lt k) (positions (touches (By x.event.actor)) es)) ≡ true
+pub found_of_actor : (x : Entry) (k : ℕ) (es : List Entry) → is_some (find (nat_lt k) (positions (is_listed_for (By x.event.actor)) es)) ≡ true
     → is_some (find (nat_lt k) (positions (depends x) es)) ≡ true
 found_of_actor x k es h =
-    sym (ap is_some (earlier-first (touches (By x.event.actor)) (depends x) (depends x) (λ y. again (x.event.actor == y.event.actor) _) k es))
-    ∙ there (find (nat_lt k) (positions (touches (By x.event.actor)) es)) (find (nat_lt k) (positions (depends x) es)) h
+    sym (ap is_some (earlier-first (is_listed_for (By x.event.actor)) (depends x) (depends x) (λ y. again (x.event.actor == y.event.actor) _) k es))
+    ∙ there (find (nat_lt k) (positions (is_listed_for (By x.event.actor)) es)) (find (nat_lt k) (positions (depends x) es)) h
   where
     again : (a b : Bool) → (a || b) ≡ (a || (a || b))
     again a b = grind arith

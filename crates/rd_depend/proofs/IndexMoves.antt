@@ -1,6 +1,6 @@
 -- Moving a position in all lists: the index is then that of the entries with that one moved, and
 -- has the same room.
-use Rattle.rd_depend.proofs.Prelude.{◌≡◌, ℕ, zero, suc, ◌+◌, ◌-◌, ◌<◌, ◌≤◌, ◌==◌, Bool, false, nat_lt, if◌then◌else◌, List, [], ◌∷◌, ◌++◌, length, slice_get, take, drop, Option, Some, None, refl, sym, ap, subst, ◌∙◌, append_assoc, arith, length-append, length-drop, option_map_or, nat_tests, drop_of_length-le, length-take-le, take_all, take-append-drop, drop-drop, Entry, numbered, without, DependIndex, AscendsFrom, IsAscending, contains, moved_position, positions_from, positions, count_by, touches, ListKey, kept, capacity, IsIndexOf, HasSameRoom, IsMoved, moved_to}
+use Rattle.rd_depend.proofs.Prelude.{◌≡◌, ℕ, zero, suc, ◌+◌, ◌-◌, ◌<◌, ◌≤◌, ◌==◌, Bool, false, nat_lt, if◌then◌else◌, List, [], ◌∷◌, ◌++◌, length, slice_get, take, drop, Option, Some, None, refl, sym, ap, subst, ◌∙◌, append_assoc, arith, length-append, length-drop, option_map_or, nat_tests, drop_of_length-le, length-take-le, take_all, take-append-drop, drop-drop, Entry, numbered, without, DependIndex, AscendsFrom, IsAscending, contains, moved_position, positions_from, positions, count_by, is_listed_for, ListKey, kept, capacity, IsIndexOf, HasSameRoom, IsMoved, moved_to}
 use Rattle.rd_depend.proofs.IndexPositions.{positions-ascend, ascending, count_by-append, count_by-cons}
 use Rattle.rd_depend.proofs.Elements.{drop-element}
 use Rattle.rd_depend.proofs.IndexFirst.{kept-ascends}
@@ -83,11 +83,14 @@ same_ascending m n (x ∷ xs) (y ∷ ys) h g same =
 
 -- the positions of entries are those of the ones that pass the test
 
+-- n + j is among the positions, counted from n, of the entries that pass the test exactly if there
+-- is a j-th entry, counted from 0, and it passes
 has-positions : (test : Entry → Bool) (n j : ℕ) (es : List Entry) → contains (positions_from test n es) (n + j) ≡ option_map_or test (slice_get es j) false
 has-positions test n j [] = refl
 has-positions test n zero (x ∷ xs) = grind (arith, nat_tests, has-below (n + 1) (n + 0) (positions_from test (n + 1) xs) (positions-ascend test (n + 1) xs))
 has-positions test n (suc j) (x ∷ xs) = grind (arith, nat_tests, has-positions test (n + 1) j xs)
 
+-- the same for positions counted from 1
 has-numbered : (test : Entry → Bool) (p : ℕ) (es : List Entry) → contains (positions test es) p ≡ option_map_or test (numbered es p) false
 has-numbered test zero es = has-below 1 0 (positions test es) (positions-ascend test 1 es) (omega arith)
 has-numbered test (suc j) es = let e : suc j ≡ 1 + j = omega arith in ap (contains (positions test es)) e ∙ has-positions test 1 j es
@@ -120,7 +123,7 @@ moved_index old new k n some order within moves len es is =
     let c = cut es k n some order (omega arith) in
     record {
       lists = λ t.
-          positions-moved (touches t) k n es (kept new t) some order c
+          positions-moved (is_listed_for t) k n es (kept new t) some order c
           (subst (λ (ps : List ℕ). IsMoved k n ps (kept new t)) (is.lists t) (moves t (kept-ascends old es is t)));
       len = len ∙ is.len ∙ sym (length-moved es k n c);
     }
@@ -128,7 +131,7 @@ moved_index old new k n some order within moves len es is =
 pub moved_room : (old new : DependIndex) (k n : ℕ) → 1 ≤ k → k ≤ n → n ≤ old.len → ((es : List Entry) → IsIndexOf old es → IsIndexOf new (moved_to es k n))
     → ((t : ListKey) → capacity new t ≡ capacity old t) → (es : List Entry) → IsIndexOf old es → HasSameRoom old new
 moved_room old new k n some order within moves stays es is = λ t.
-    omega (arith, room_stays old new es (moved_to es k n) is (moves es is) stays t, count_by-moved (touches t) es k n (cut es k n some order (omega arith)))
+    omega (arith, room_stays old new es (moved_to es k n) is (moves es is) stays t, count_by-moved (is_listed_for t) es k n (cut es k n some order (omega arith)))
 
 -- an entry moved to the end of the list is removed and put last
 pub moved_last : (es : List Entry) (k n : ℕ) (x : Entry) → n ≡ length es → numbered es k ≡ Some x → moved_to es k n ≡ without es k ++ x ∷ []

@@ -1,5 +1,5 @@
 -- The room of an index, from the capacities of its lists.
-use Rattle.rd_depend.proofs.Prelude.{◌≡◌, ℕ, ◌+◌, ◌-◌, ◌<◌, ◌≤◌, Bool, true, cond, ap, List, [], ◌∷◌, length, arith, Entry, DependIndex, Key, list_at, kept_in, capacity_at, ListKey, touches, count_by, kept, capacity, spare, IsIndexOf, HasRoomFor, UsesRoom, capacity_in}
+use Rattle.rd_depend.proofs.Prelude.{◌≡◌, ℕ, ◌+◌, ◌-◌, ◌<◌, ◌≤◌, Bool, true, cond, ap, List, [], ◌∷◌, length, arith, Entry, DependIndex, Key, list_at, kept_in, capacity_at, ListKey, is_listed_for, count_by, kept, capacity, spare, IsIndexOf, HasRoomFor, UsesRoom, capacity_in}
 use Rattle.rd_depend.proofs.IndexPositions.{count_by-cons, positions-number}
 
 -- what holds of each actor's list and of each key's list holds of all lists
@@ -20,13 +20,13 @@ spare_is index t = grind arith
 
 -- if the capacities are as before, an index has as much more room as it has fewer positions
 pub room_stays : (old new : DependIndex) (es fs : List Entry) → IsIndexOf old es → IsIndexOf new fs → ((t : ListKey) → capacity new t ≡ capacity old t)
-    → (t : ListKey) → spare new t + count_by (touches t) fs ≡ spare old t + count_by (touches t) es
+    → (t : ListKey) → spare new t + count_by (is_listed_for t) fs ≡ spare old t + count_by (is_listed_for t) es
 room_stays old new es fs was is stays t = grind (arith, spare_is, positions-number, kept-within_capacity)
 
 -- room for an entry and others is room for the entry
-pub room_for_first : (index : DependIndex) (x : Entry) (rest : List Entry) → HasRoomFor index (x ∷ rest) → (t : ListKey) → touches t x ≡ true → 0 < spare index t
-room_for_first index x rest has t h = omega (arith, count_by-cons (touches t) x rest, has.lists t, ap {B = ℕ} (λ (b : Bool). cond b 1 0) h)
+pub room_for_first : (index : DependIndex) (x : Entry) (rest : List Entry) → HasRoomFor index (x ∷ rest) → (t : ListKey) → is_listed_for t x ≡ true → 0 < spare index t
+room_for_first index x rest has t h = omega (arith, count_by-cons (is_listed_for t) x rest, has.lists t, ap {B = ℕ} (λ (b : Bool). cond b 1 0) h)
 
 -- room for an entry and others is room for the others once the entry has used its own
 pub room_left : (old new : DependIndex) (x : Entry) → UsesRoom old new (x ∷ []) → (rest : List Entry) → HasRoomFor old (x ∷ rest) → HasRoomFor new rest
-room_left old new x used rest has = record { lists = λ t. omega (arith, count_by-cons (touches t) x rest, has.lists t, used t) }
+room_left old new x used rest has = record { lists = λ t. omega (arith, count_by-cons (is_listed_for t) x rest, has.lists t, used t) }

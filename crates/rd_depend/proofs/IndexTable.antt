@@ -1,5 +1,5 @@
 -- The table of keys: which key has which index, and what a change of the lists means for the keys.
-use Rattle.rd_depend.proofs.Prelude.{nat_tests, slice_get-push_same, slice_get-push_other, Key, Table, key_eq, slot_in, key_eq-true, key_eq-refl, key_eq-sym, Lists, list_at, spare_at, cond, list_of, capacity_of, lists_of, kept_in, spare_in, is_kept_in, IsReady, KeepsLists, Puts, RemovesLast, Moves, capacity_at, IsAscending, IsMoved, ◌≡◌, ℕ, suc, ◌+◌, ◌-◌, ◌<◌, ◌≤◌, Bool, true, false, ◌&&◌, ◌==◌, if◌then◌else◌, List, [], ◌∷◌, ◌++◌, length, get_or, take, Option, Some, None, slice_get, slice_get-get_or, option_map, Vec, refl, sym, ap, subst, ◌∙◌, arith, eqb-true, eq-eqb, list_any, IsDistinct, apart_from_distinct, Global}
+use Rattle.rd_depend.proofs.Prelude.{nat_tests, slice_get-push_same, slice_get-push_other, Key, Table, key_eq, slot_in, key_eq-true, key_eq-refl, key_eq-sym, Lists, list_at, spare_at, cond, some_list_at, some_capacity_at, lists_of, kept_in, spare_in, is_kept_in, IsReady, KeepsLists, Puts, RemovesLast, Moves, capacity_at, IsAscending, IsMoved, ◌≡◌, ℕ, suc, ◌+◌, ◌-◌, ◌<◌, ◌≤◌, Bool, true, false, ◌&&◌, ◌==◌, if◌then◌else◌, List, [], ◌∷◌, ◌++◌, length, get_or, take, Option, Some, None, slice_get, slice_get-get_or, option_map, Vec, refl, sym, ap, subst, ◌∙◌, arith, eqb-true, eq-eqb, list_any, IsDistinct, apart_from_distinct, Global}
 use Rattle.rd_depend.proofs.IndexLists.{none_moved}
 use Rattle.std.proofs.lemmas.List.Quantifiers.{position-Some}
 use Rattle.std.specs.Cmp.{both_ways}
@@ -59,7 +59,7 @@ slot-same keys k q i h = both_ways (is_slot i (slot_in keys q)) (key_eq q k) (to
 
 -- the number of positions for which the list at an index has room left
 abbrev room_left : Lists → Option ℕ → ℕ
-room_left lists o = capacity_of lists o - length (list_of lists o)
+room_left lists o = some_capacity_at lists o - length (some_list_at lists o)
 
 -- what the table's calls ask for
 
@@ -68,7 +68,7 @@ ready_room t k wrote i r w c = subst (λ (o : Option ℕ). 0 < room_left (lists_
 
 pub last_there : (t : Table) (k : Key) (wrote : Bool) (i : ℕ) → slot_in t.keys.keys k ≡ Some i → ((w : Bool) → is_kept_in w wrote ≡ true → 1 ≤ length (kept_in t w k))
     → (w : Bool) → is_kept_in w wrote ≡ true → 1 ≤ length (list_at (lists_of t w) i)
-last_there t k wrote i slot h w c = subst (λ (o : Option ℕ). 1 ≤ length (list_of (lists_of t w) o)) slot (h w c)
+last_there t k wrote i slot h w c = subst (λ (o : Option ℕ). 1 ≤ length (some_list_at (lists_of t w) o)) slot (h w c)
 
 pub spare_there : (t : Table) (k : Key) (w : Bool) (i : ℕ) → slot_in t.keys.keys k ≡ Some i → 0 < spare_in t w k → 0 < spare_at (lists_of t w) i
 spare_there t k w i slot h = subst (λ (o : Option ℕ). 0 < room_left (lists_of t w) o) slot h

@@ -1,6 +1,6 @@
 -- The last writer of a place, from the last positions up to a number in the lists of the place and
 -- its segment.
-use Rattle.rd_depend.proofs.Prelude.{nat_lt, common_steps, Place, some_overlap, Entry, DependIndex, is_under, is_under_some, search_key, value_key_of_place, whole_key, IsAscending, before_first, last_or, later, ListKey, touched_or_written, touches, positions_from, positions, kept, IsIndexOf, one_further, last_position, writes_to, ◌≡◌, ℕ, suc, ◌+◌, ◌-◌, ◌<◌, ◌≤◌, Bool, true, false, ◌||◌, List, [], ◌∷◌, length, get_or, take, Option, Some, None, refl, ap, ◌∙◌, arith}
+use Rattle.rd_depend.proofs.Prelude.{nat_lt, common_steps, Place, some_overlap, Entry, DependIndex, is_under, is_under_some, search_key, value_key_of_place, whole_key, IsAscending, before_first, last_or, later, ListKey, touched_or_written, is_listed_for, positions_from, positions, kept, IsIndexOf, one_further, last_position, writes_to, ◌≡◌, ℕ, suc, ◌+◌, ◌-◌, ◌<◌, ◌≤◌, Bool, true, false, ◌||◌, List, [], ◌∷◌, length, get_or, take, Option, Some, None, refl, ap, ◌∙◌, arith}
 use Rattle.rd_depend.proofs.IndexCuts.{positions-up_to}
 use Rattle.rd_depend.proofs.IndexFirst.{kept-ascends, kept-short, overlaps-keys}
 
@@ -37,7 +37,7 @@ later-last t u v h (x ∷ xs) = grind (arith, later-last t u v h xs)
 -- what the searches find
 
 pub last_in : (index : DependIndex) (es : List Entry) → IsIndexOf index es → (t : ListKey) (n : ℕ) (r : Option ℕ)
-    → (IsAscending (kept index t) → length (kept index t) < 131072 → r ≡ last_or None (before_first (nat_lt n) (kept index t))) → r ≡ last_position (touches t) (take n es)
+    → (IsAscending (kept index t) → length (kept index t) < 131072 → r ≡ last_or None (before_first (nat_lt n) (kept index t))) → r ≡ last_position (is_listed_for t) (take n es)
 last_in index es is t n r found = grind (arith, common_steps, kept-ascends, kept-short, positions-up_to, last-is)
 
 some_overlap-swap : (o p : Option Place) → some_overlap o p ≡ some_overlap p o

@@ -1,6 +1,6 @@
 -- The steps of one list keep the order of another list exactly if they may be taken out of that
 -- list one after another.
-use Rattle.rd_depend.proofs.Prelude.{AllByRecursion, eqb-false, map-append, Entry, Key, Reached, is_under, last_blocking, taken_in, with_step, nothing_reached, AreAlike, Numbered, by_actor, steps_by_actor, with_steps, KeepsOrder, ◌≡◌, ◌≢◌, ℕ, ◌+◌, ◌<◌, ◌≤◌, Bool, true, false, ◌==◌, if◌then◌else◌, List, [], ◌∷◌, ◌++◌, length, map, refl, sym, ap, subst, ◌∙◌, arith, eqb-true, length-append, enumerate_from, filter-append}
+use Rattle.rd_depend.proofs.Prelude.{AllByRecursion, eqb-false, map-append, Entry, Key, Reached, is_under, last_blocking, taken_in, with_step, nothing_reached, AreAlike, Numbered, by_actor, steps_by_actor, with_rest, KeepsOrder, ◌≡◌, ◌≢◌, ℕ, ◌+◌, ◌<◌, ◌≤◌, Bool, true, false, ◌==◌, if◌then◌else◌, List, [], ◌∷◌, ◌++◌, length, map, refl, sym, ap, subst, ◌∙◌, arith, eqb-true, length-append, enumerate_from, filter-append}
 use Rattle.rd_depend.proofs.Elements.{all-append, all-parts, all-weaker, map-nil}
 use Rattle.rd_depend.proofs.FirstOfActor.{HasNoneBy}
 use Rattle.rd_depend.proofs.TouchedKeys.{wrote_under, wrote_touched, passed_at, in_order_at, in_order_from}
@@ -109,7 +109,7 @@ by_actor-first n [] qs p e none = by_actor-own n p qs e
 by_actor-first n (r ∷ ps) qs p e none = grind (arith, by_actor-first n ps qs p e none.1)
 
 taken_out : (n : ℕ) (ps qs : List Numbered) (p : Numbered) → n ≡ p.1.event.actor → (m : ℕ)
-    → with_steps (λ k. by_actor k (ps ++ p ∷ qs)) n (by_actor n (ps ++ qs)) m ≡ by_actor m (ps ++ qs)
+    → with_rest (λ k. by_actor k (ps ++ p ∷ qs)) n (by_actor n (ps ++ qs)) m ≡ by_actor m (ps ++ qs)
 taken_out n ps qs p e m = grind (arith, filter-append, by_actor-other)
 
 nobody_left : (ps : List Numbered) → ((n : ℕ) → by_actor n ps ≡ []) → ps ≡ []
@@ -158,8 +158,8 @@ kept s (x ∷ xs) ps ascends h =
     let n = x.event.actor in
     let f = first_by n ps p h.1 h.2.first in
     let asc = subst Ascends f.stands ascends in
-    let left : (m : ℕ) → with_steps (λ k. by_actor k ps) n h.1 m ≡ by_actor m (f.earlier ++ f.later) =
-    λ m. (λ i. with_steps (λ k. by_actor k (f.stands i)) n (f.left i) m) ∙ taken_out n f.earlier f.later p f.actor m in
+    let left : (m : ℕ) → with_rest (λ k. by_actor k ps) n h.1 m ≡ by_actor m (f.earlier ++ f.later) =
+    λ m. (λ i. with_rest (λ k. by_actor k (f.stands i)) n (f.left i) m) ∙ taken_out n f.earlier f.later p f.actor m in
     subst (λ (l : List Numbered). Kept s (x ∷ xs) l) (sym f.stands)
     (kept_more s (with_step s x p.0) x xs f.earlier f.later p (passed_at s x p.0) asc h.2.alike (in_order_at s x p.0 h.2.order)
     (subst (λ (k : ℕ). HasNoneBy k (entries_of f.earlier)) f.actor f.none)
@@ -216,7 +216,7 @@ taken_more s t x xs ps qs p m is order ascends alike apart on =
         alike = alike;
         order = in_order_from s x p.0 (after-alike s p.1 x p.0 (alike-sym x p.1 alike) parts.1.0);
       },
-      subst (λ (u : Key → Reached). KeepsOrder u xs (with_steps (λ k. by_actor k (ps ++ p ∷ qs)) n (by_actor n (ps ++ qs)))) is
+      subst (λ (u : Key → Reached). KeepsOrder u xs (with_rest (λ k. by_actor k (ps ++ p ∷ qs)) n (by_actor n (ps ++ qs)))) is
           (subst (λ (l : ℕ → List Numbered). KeepsOrder t xs l) (λ i m. sym (taken_out n ps qs p e m) i) (on rest)),
     )
 

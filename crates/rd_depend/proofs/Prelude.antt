@@ -17,11 +17,11 @@ pub use Rattle.rd_step.specs.declared.entries.Entry.{Entry}
 pub use Rattle.rd_step.specs.declared.entries.Event.{Event}
 pub use Rattle.rd_depend.specs.Beginnings.{Begins, NeitherBegins}
 pub use Rattle.rd_depend.specs.Changes.{Adds, KeepsPositions, entry_keys}
-pub use Rattle.rd_depend.specs.ComparedSteps.{IsMatched, IsOutOfOrder, steps_by_actor, by_actor, left_in, left_of, reached_of, reached_or_nothing, with_first}
+pub use Rattle.rd_depend.specs.ComparedSteps.{IsMatched, IsUnmatched, steps_by_actor, by_actor, left_in, left_of, reached_of, reached_or_nothing, with_first}
 pub use Rattle.rd_depend.specs.Equivalence.{DecidesEquivalence}
-pub use Rattle.rd_depend.specs.Index.{By, EndsWith, GivesRoom, HasRoomFor, HasRoomInstead, IsIndexOf, HasSameRoom, ListKey, Under, UsesRoom, capacity, kept, positions, positions_from, spare, touched_or_written, touches}
+pub use Rattle.rd_depend.specs.Index.{By, EndsWith, GivesRoom, HasRoomFor, HasRoomInstead, IsIndexOf, HasSameRoom, ListKey, Under, UsesRoom, capacity, kept, positions, positions_from, spare, touched_or_written, is_listed_for}
 unfoldable pub use Rattle.rd_depend.specs.KeepingOrder.{with_step}
-pub use Rattle.rd_depend.specs.KeepingOrder.{AreAlike, IsAfter, IsInOrder, KeepsOrder, Numbered, is_whole_segment, last_blocking, nothing_reached, taken_in, taken_in_under, with_steps}
+pub use Rattle.rd_depend.specs.KeepingOrder.{AreAlike, IsAfter, IsInOrder, KeepsOrder, Numbered, is_whole_segment, last_blocking, nothing_reached, taken_in, taken_in_under, with_rest}
 unfoldable pub use Rattle.rd_depend.specs.Keys.{slot_in}
 unfoldable pub use Rattle.rd_depend.specs.Lists.{IsMoved}
 pub use Rattle.rd_depend.specs.KeyLaws.{key_eq-refl, key_eq-sym, key_eq-true}
@@ -29,7 +29,7 @@ pub use Rattle.rd_depend.specs.Keys.{some_key_eq, is_under, is_value_written, is
 pub use Rattle.rd_depend.specs.Lists.{AscendsFrom, IsAscending, contains, earlier, later, moved_position, lowered_and_rotated}
 pub use Rattle.rd_depend.specs.Moved.{moved_to}
 pub use Rattle.rd_depend.specs.Sharing.{ShareWrittenPlace, either_wrote, is_of_map, wrote}
-pub use Rattle.rd_depend.specs.Tables.{HasLast, IsReady, IsReadyIfSome, KeepsLists, Lists, Moves, Puts, RemovesLast, capacity_at, capacity_in, capacity_of, is_kept_in, is_writes, items_of, kept_in, list_at, list_of, lists_of, spare_at, spare_in}
+pub use Rattle.rd_depend.specs.Tables.{HasLast, IsReady, IsReadyIfSome, KeepsLists, Lists, Moves, Puts, RemovesLast, capacity_at, capacity_in, some_capacity_at, is_kept_in, is_writes, items_of, kept_in, list_at, some_list_at, lists_of, spare_at, spare_in}
 pub use Rattle.rd_depend.specs.Writers.{last_position, one_further, writes_to}
 pub use Rattle.rd_depend.specs.declared.index.DependIndex.{DependIndex}
 pub use Rattle.rd_depend.specs.declared.index.changing.EntryKey.{EntryKey}

@@ -5,15 +5,16 @@ use Rattle.rd_step.specs.declared.entries.Entry.{Entry}
 use Rattle.rd_depend.specs.declared.index.DependIndex.{DependIndex}
 use Rattle.rd_depend.specs.declared.index.changing.EntryKeys.{EntryKeys}
 use Rattle.rd_depend.specs.declared.index.changing.Slots.{Slots}
-use Rattle.rd_depend.specs.Index.{ListKey, touches, kept, spare, position_count}
+use Rattle.rd_depend.specs.Index.{ListKey, is_listed_for, kept, spare, position_count}
 use Rattle.rd_depend.specs.Keys.{place_key, value_key, segment_key, is_value_written}
 use Rattle.rd_depend.specs.Tables.{spare_at, IsReadyIfSome}
 
 -- the index got this entry at the next position: each list that is to keep it has that position at
--- its end and lost room for at most one, and each other list is as before
+-- its end and lost room for at most one. The other lists have the positions that they had, and lost
+-- no room
 pub record Adds (x : Entry) (old new : DependIndex) : Type 0 where
-  pub lists : (t : ListKey) → kept new t ≡ (if touches t x then kept old t ++ (position_count old + 1) ∷ [] else kept old t)
-  pub room : (t : ListKey) → spare old t ≤ spare new t + cond (touches t x) 1 0
+  pub lists : (t : ListKey) → kept new t ≡ (if is_listed_for t x then kept old t ++ (position_count old + 1) ∷ [] else kept old t)
+  pub room : (t : ListKey) → spare old t ≤ spare new t + cond (is_listed_for t x) 1 0
   pub len : position_count new ≡ position_count old + 1
 
 -- the lists and the number of positions are as before, and no list lost room
@@ -30,8 +31,9 @@ entry_keys x = record {
   segment = record { key = segment_key x.place; wrote = not (is_nothing x.wrote) };
 }
 
--- there is room for the entry's position in each list that is to keep it, and its keys have these
--- indices
+-- the list of the entry's actor, and those that are to keep the entry under the keys `homes`, have
+-- room for one more position; these keys have the indices `slots` in the table, none where there is
+-- no key
 pub record IsReadyFor (index : DependIndex) (x : Entry) (homes : EntryKeys) (slots : Slots) : Type 0 where
   pub actor : 0 < spare_at index.by_actor.items x.event.actor
   pub place : IsReadyIfSome index.by_key homes.place.key homes.place.wrote slots.place

@@ -18,16 +18,16 @@ pub data ListKey : Type 0 where
   By : ℕ → ListKey
   Under : Bool → Key → ListKey
 
--- the place that an entry's step touched; or, if the bit is true, the place that names what it
--- wrote
+-- the place that an entry's step touched, if there is one; or, if the bit is true, the place that
+-- names what it wrote, if it wrote anything
 abbrev pub touched_or_written : Bool → Entry → Option Place
 touched_or_written false x = x.place
 touched_or_written true x = written x.place x.wrote
 
 -- whether an entry is to be kept in the list for this actor or key
-abbrev pub touches : ListKey → Entry → Bool
-touches (By a) x = a == x.event.actor
-touches (Under w k) x = is_under k (touched_or_written w x)
+abbrev pub is_listed_for : ListKey → Entry → Bool
+is_listed_for (By a) x = a == x.event.actor
+is_listed_for (Under w k) x = is_under k (touched_or_written w x)
 
 -- the positions of the entries that pass the test, if the first entry is at position n
 abbrev pub positions_from : (Entry → Bool) → ℕ → List Entry → List ℕ
@@ -55,17 +55,17 @@ position_count index = index.len
 -- the index is that of these entries: each list has just the positions of the entries that it is to
 -- keep, and there is one position for each entry
 pub record IsIndexOf (index : DependIndex) (entries : List Entry) : Type 0 where
-  pub lists : (t : ListKey) → kept index t ≡ positions (touches t) entries
+  pub lists : (t : ListKey) → kept index t ≡ positions (is_listed_for t) entries
   pub len : position_count index ≡ length entries
 
 -- each list has room for the positions of all of these entries that it is to keep
 pub record HasRoomFor (index : DependIndex) (entries : List Entry) : Type 0 where
-  pub lists : (t : ListKey) → count_by (touches t) entries ≤ spare index t
+  pub lists : (t : ListKey) → count_by (is_listed_for t) entries ≤ spare index t
 
 -- each list has room for the positions of all of the given entries that it is to keep, once the
 -- positions of the entries in `gone` are removed
 pub record HasRoomInstead (index : DependIndex) (gone given : List Entry) : Type 0 where
-  pub lists : (t : ListKey) → count_by (touches t) given ≤ spare index t + count_by (touches t) gone
+  pub lists : (t : ListKey) → count_by (is_listed_for t) given ≤ spare index t + count_by (is_listed_for t) gone
 
 -- each list has as much room as before
 abbrev pub HasSameRoom : DependIndex → DependIndex → Type 0
@@ -77,19 +77,19 @@ KeepsRoom old new = (t : ListKey) → spare old t ≤ spare new t
 
 -- each list has room for as many more positions as it kept of these entries, which were removed
 abbrev pub GivesRoom : DependIndex → DependIndex → List Entry → Type 0
-GivesRoom old new gone = (t : ListKey) → spare new t ≡ spare old t + count_by (touches t) gone
+GivesRoom old new gone = (t : ListKey) → spare new t ≡ spare old t + count_by (is_listed_for t) gone
 
 -- each list lost room for at most as many positions as it keeps of the given entries
 abbrev pub UsesRoom : DependIndex → DependIndex → List Entry → Type 0
-UsesRoom old new given = (t : ListKey) → spare old t ≤ spare new t + count_by (touches t) given
+UsesRoom old new given = (t : ListKey) → spare old t ≤ spare new t + count_by (is_listed_for t) given
 
 -- the index is that of a list of entries that ends with these
 pub record EndsWith (index : DependIndex) (last : List Entry) : Type 0 where
   pub before : List Entry
   pub is : IsIndexOf index (before ++ last)
 
--- the index is that of a list whose entry at position k is this one
-pub record IsHeld (index : DependIndex) (k : ℕ) (x : Entry) : Type 0 where
+-- the index is that of a list whose entry at position k, counted from 1, is this one
+pub record HasEntryAt (index : DependIndex) (k : ℕ) (x : Entry) : Type 0 where
   pub entries : List Entry
   pub is : IsIndexOf index entries
   pub at : numbered entries k ≡ Some x

@@ -53,12 +53,12 @@ value_key o = option_and_then value_key_of_place o
 
 -- the key of the place's segment, also for the whole of a segment; none for the queue's ends and
 -- the array
-abbrev pub key_of_segment : Place → Option Key
-key_of_segment p = option_map In (named_segment p)
+abbrev pub segment_key_of_place : Place → Option Key
+segment_key_of_place p = option_map In (named_segment p)
 
 -- the key of the place's segment, if there is a place and it is in a segment or is the whole of one
 abbrev pub segment_key : Option Place → Option Key
-segment_key o = option_and_then key_of_segment o
+segment_key o = option_and_then segment_key_of_place o
 
 -- whether an access to a cell that wrote this part of it wrote the value half
 abbrev pub is_value_written : Wrote → Bool
@@ -77,11 +77,12 @@ search_key p = At (index_half p)
 abbrev pub whole_key : Place → Option Key
 whole_key p = option_map (λ s. At (place.Whole s)) (segment_of p)
 
--- the index of the first of these keys that is equal to this one; none if no key is
+-- the index, from 0, of the first of these keys that is equal to this one; none if no key is
 unfoldable pub slot_in : List Key → Key → Option ℕ
 slot_in keys k = position (key_eq k) keys
 
--- a kind of key, an index and a segment's name as one number, in which each has digits of its own
+-- a kind of key, an index and a segment's name as one number. Each has digits of its own if index
+-- and maker are below 2^8 and the name's `n` is below 2^32
 abbrev pub packed : ℕ → SegName → ℕ → ℕ
 packed kind s i = ((kind * 256 + i) * 256 + s.maker) * 4294967296 + s.n
 

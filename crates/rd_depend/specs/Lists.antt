@@ -13,8 +13,8 @@ AscendsFrom n (p ∷ ps) = (n ≤ p) × AscendsFrom (suc p) ps
 abbrev pub IsAscending : List ℕ → Type 0
 IsAscending ps = AscendsFrom 0 ps
 
--- what position p becomes when the element at position k is moved to n: k becomes n, and the
--- positions above k up to n become one less
+-- what position p becomes when the element at position k is moved to n: k becomes n, the positions
+-- above k up to n become one less, and the others stay
 abbrev pub moved_position : ℕ → ℕ → ℕ → ℕ
 moved_position k n p = if nat_lt p k then p else (if p == k then n else (if nat_le p n then p - 1 else p))
 
@@ -26,7 +26,7 @@ contains ps p = list_any (λ q. q == p) ps
 unfoldable pub IsMoved : ℕ → ℕ → List ℕ → List ℕ → Type 0
 IsMoved k n old new = IsAscending new × ((p : ℕ) → contains new (moved_position k n p) ≡ contains old p)
 
--- each position, one less; but if the first is k, it goes to the end and becomes n
+-- each position, one less, where 0 stays 0; but if the first is k, it goes to the end and becomes n
 abbrev pub lowered_and_rotated : ℕ → ℕ → List ℕ → List ℕ
 lowered_and_rotated k n [] = []
 lowered_and_rotated k n (p ∷ ps) = if p == k then map (λ q. q - 1) ps ++ n ∷ [] else map (λ q. q - 1) (p ∷ ps)

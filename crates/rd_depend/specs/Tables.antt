@@ -1,5 +1,7 @@
--- Lists of positions, each known by its number; what the table of keys keeps in them; and how its
--- calls change them.
+-- Lists of positions, each known by its number, from 0; what the table of keys keeps in them; and
+-- how its calls change them. For each key the table has two lists: one of all positions, and one of
+-- the positions of steps that wrote there. A bit `w` says which list is meant: the second if it is
+-- true. A bit `wrote` says whether a step wrote there.
 use Rattle.std.specs.Prelude.{◌≡◌, ℕ, ◌+◌, ◌-◌, ◌<◌, ◌≤◌, Bool, true, false, ◌&&◌, cond, if◌then◌else◌, List, [], ◌∷◌, ◌++◌, length, take, Option, Some, None, Vec, slice_get, vec_capacity, nat_lt}
 use Rattle.std.specs.Option.{option_map_or}
 use Rattle.std.specs.List.{before_first}
@@ -37,15 +39,15 @@ abbrev pub vec_spare : Vec ℕ Global → ℕ
 vec_spare list = vec_capacity list - length list.items
 
 -- the positions of the list of this number; none without a number
-abbrev pub list_of : Lists → Option ℕ → List ℕ
-list_of lists None = []
-list_of lists (Some i) = list_at lists i
+abbrev pub some_list_at : Lists → Option ℕ → List ℕ
+some_list_at lists None = []
+some_list_at lists (Some i) = list_at lists i
 
 -- the number of positions that the list of this number can have before it has to grow; 0 without a
 -- number
-abbrev pub capacity_of : Lists → Option ℕ → ℕ
-capacity_of lists None = 0
-capacity_of lists (Some i) = capacity_at lists i
+abbrev pub some_capacity_at : Lists → Option ℕ → ℕ
+some_capacity_at lists None = 0
+some_capacity_at lists (Some i) = capacity_at lists i
 
 -- whether only the positions of the steps that wrote are meant
 abbrev pub is_writes : Among → Bool
@@ -58,15 +60,18 @@ abbrev pub lists_of : Table → Bool → Lists
 lists_of t false = t.all.items
 lists_of t true = t.writes.items
 
--- the positions kept under a key; if the bit is true, only those of steps that wrote
+-- the positions kept under a key; if the bit is true, only those of steps that wrote. There are
+-- none if the key isn't in the table
 abbrev pub kept_in : Table → Bool → Key → List ℕ
-kept_in t w k = list_of (lists_of t w) (slot_in t.keys.keys k)
+kept_in t w k = some_list_at (lists_of t w) (slot_in t.keys.keys k)
 
--- the number of positions that one of a key's two lists can have before it has to grow
+-- the number of positions that this one of a key's two lists can have before it has to grow; 0 if
+-- the key isn't in the table
 abbrev pub capacity_in : Table → Bool → Key → ℕ
-capacity_in t w k = capacity_of (lists_of t w) (slot_in t.keys.keys k)
+capacity_in t w k = some_capacity_at (lists_of t w) (slot_in t.keys.keys k)
 
--- the number of positions for which one of a key's two lists has room left
+-- the number of positions for which this one of a key's two lists has room left; 0 if the key isn't
+-- in the table
 abbrev pub spare_in : Table → Bool → Key → ℕ
 spare_in t w k = capacity_in t w k - length (kept_in t w k)
 
@@ -99,14 +104,15 @@ pub record KeepsLists (old new : Table) : Type 0 where
   pub slots : (k : Key) (i : ℕ) → slot_in old.keys.keys k ≡ Some i → slot_in new.keys.keys k ≡ Some i
 
 -- the position was put at the end of those of the key's lists that are to keep the step, which lost
--- room for at most one. The other lists are as before, and the keys have their old indices
+-- room for at most one. The other lists, or all without a key, are as before and lost no room. The
+-- keys have their old indices
 pub record Puts (k : Option Key) (wrote : Bool) (position : ℕ) (old new : Table) : Type 0 where
   pub lists : (w : Bool) (q : Key) → kept_in new w q ≡ (if is_kept_in w wrote && some_key_eq q k then kept_in old w q ++ position ∷ [] else kept_in old w q)
   pub room : (w : Bool) (q : Key) → spare_in old w q ≤ spare_in new w q + cond (is_kept_in w wrote && some_key_eq q k) 1 0
   pub slots : (q : Key) → slot_in new.keys.keys q ≡ slot_in old.keys.keys q
 
 -- those of the key's lists that keep the step lost their last position and have room for one more;
--- the other lists are as before
+-- the other lists, or all without a key, are as before
 pub record RemovesLast (k : Option Key) (wrote : Bool) (old new : Table) : Type 0 where
   pub lists : (w : Bool) (q : Key) → kept_in new w q ≡ (if is_kept_in w wrote && some_key_eq q k then take (length (kept_in old w q) - 1) (kept_in old w q) else kept_in old w q)
   pub room : (w : Bool) (q : Key) → spare_in new w q ≡ spare_in old w q + cond (is_kept_in w wrote && some_key_eq q k) 1 0

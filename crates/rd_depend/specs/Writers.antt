@@ -3,8 +3,8 @@ use Rattle.std.specs.Prelude.{ℕ, suc, Bool, if◌then◌else◌, List, [], ◌
 use Rattle.rd_step.specs.Prelude.{Place, some_overlap, written}
 use Rattle.rd_step.specs.declared.entries.Entry.{Entry}
 
--- a position found in the rest of a list, as a position in the whole list; if none was found,
--- position 1 if the first element passes (`first`)
+-- a position found in the rest of a list, as a position in the whole list. If none was found, it is
+-- position 1 if the first element passes (`first`), and else none
 abbrev pub one_further : Bool → Option ℕ → Option ℕ
 one_further first (Some n) = Some (suc n)
 one_further first None = if first then Some 1 else None

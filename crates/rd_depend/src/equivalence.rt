@@ -9,7 +9,7 @@ ghost use Rattle.rd_step.specs.Run.{events};
 ghost use Rattle.rd_depend.specs.Beginnings.{NeitherBegins};
 ghost use Rattle.rd_depend.specs.Equivalence.{DecidesEquivalence};
 ghost use Rattle.rd_depend.specs.KeepingOrder.{AreAlike};
-ghost use Rattle.rd_depend.specs.ComparedSteps.{IsMatched, IsOutOfOrder, left_of, reached_of};
+ghost use Rattle.rd_depend.specs.ComparedSteps.{IsMatched, IsUnmatched, left_of, reached_of};
 
 use super::keeping_order::ReachedByKey;
 use super::steps_by_actor::StepsByActor;
@@ -71,7 +71,7 @@ fn match_next(
         → IsMatched entry.now (reached_of reached.old) (reached_of reached.new) (left_of left.old)
         (left_of left.new)) }
     ensures differs { IfOk result (λ ok. ok ≡ false
-        → IsOutOfOrder entry.now (reached_of reached.old) (left_of left.old)) }
+        → IsUnmatched entry.now (reached_of reached.old) (left_of left.old)) }
 {
     let Some(other) = left.pop_front(entry.event.actor) else {
         return Ok(false);

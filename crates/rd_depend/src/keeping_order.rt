@@ -92,7 +92,7 @@ impl ReachedByKey {
     /// Takes in a step under this key, which it touched and, if `wrote`, wrote. The step has the
     /// number `at` in the second run. Returns whether it comes there after all steps taken in
     /// before under the key on which it depends; without a key it does nothing and returns true.
-    /// Fails only if memory is refused.
+    /// Fails only if memory is refused; nothing is said of what is reached then.
     fn take_in_under(
         &mut self,
         key: Option<Key>,

@@ -18,11 +18,6 @@ pub fn entries_depend_where_they_share_an_actor_or_a_written_place()
         ↔ ((x.event.actor ≡ y.event.actor) ⊎ ShareWrittenPlace x y) }
 {}
 
-/// Dependence is symmetric.
-pub fn dependence_is_symmetric()
-    ensures { (x y : SomeEntry) → depends x y ≡ depends y x }
-{}
-
 /// The marks of a closure are just the least set of positions that has the step's own and, with
 /// each position, every later one whose entry depends on the entry there. A session's `roll` takes
 /// the marked steps out.

@@ -1,5 +1,5 @@
 -- Chains of answers by a gate, and lists whose elements are related pairwise.
-use Rattle.rd_desk.proofs.Prelude.{map, Option, Vec, ◌≡◌, ℕ, List, [], ◌∷◌, ◌++◌, length, arith, ◌+◌, ◌<◌, get_or, take, add-one, AllByRecursion, AllZip, Answer, Command, Global, IsChain, IsDone, IsRan, all_zipped_more, run_ending, take-suc, zip}
+use Rattle.rd_desk.proofs.Prelude.{map, Option, Vec, ◌≡◌, ℕ, List, [], ◌∷◌, ◌++◌, length, arith, ◌+◌, ◌<◌, get_or, take, add-one, AllByRecursion, AllZip, Answer, Command, Global, IsChain, IsDone, IsRunEnding, all_zipped_more, run_ending, take-suc, zip}
 
 module _ {P : Type 0} (told : P → Command → Answer → P → Type 0) where
   -- asking one more command makes a chain longer
@@ -37,7 +37,7 @@ module _ {A B C : Type 0} (R : A → B → Type 0) where
   AllZip-compose S T f (x ∷ xs) ys zs h k = grind (arith, AllZip-compose S T f xs)
 
 module _ {P : Type 0} (takes : P → Type 0) (told : P → Command → Answer → P → Type 0) where
-  -- if each viewer gave back what `IsDone` allows, its run ended as `IsRan` states
-  pub all_ran : (work : List (P × Vec Command Global)) (dones : List (P × Option (Vec Answer Global))) → AllZip (λ viewer done. IsDone takes told viewer.0 viewer.1.items done) work dones → AllZip (IsRan takes told) work (map run_ending dones)
+  -- if each viewer gave back what `IsDone` allows, its run ended as `IsRunEnding` states
+  pub all_ran : (work : List (P × Vec Command Global)) (dones : List (P × Option (Vec Answer Global))) → AllZip (λ viewer done. IsDone takes told viewer.0 viewer.1.items done) work dones → AllZip (IsRunEnding takes told) work (map run_ending dones)
   all_ran [] dones h = grind arith
   all_ran (viewer ∷ work) dones h = grind (arith, all_ran work)

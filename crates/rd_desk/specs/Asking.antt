@@ -4,7 +4,7 @@ use Rattle.rd_lock.specs.declared.views.Recorded.{Ghosts}
 use Rattle.rd_lock.specs.declared.passes.Pass.{Pass}
 use Rattle.rd_lock.specs.declared.tickets.TryTakeError.TheVariants as missed
 use Rattle.rd_lock.specs.Histories.{Continues}
-use Rattle.rd_lock.specs.Locks.{number, seen, next_seen, KnowsMore, IsMissed}
+use Rattle.rd_lock.specs.Locks.{number, seen, next_seen, KnowsNoLess, IsMissed}
 use Rattle.rd_marks.specs.BookState.{BookState}
 use Rattle.rd_marks.specs.declared.commands.Command.{Command}
 use Rattle.rd_desk.specs.declared.gates.DeskRefusal.{DeskRefusal}
@@ -19,9 +19,9 @@ IsRefusalOfAsk _ = Unit {0}
 
 module _ (opened : BookState) where
   -- what a call adds to the history that the viewer of this number has seen, from `old` to `new`. A
-  -- refusal without the lock adds nothing. Otherwise the call found `old` followed by calls of
-  -- other viewers only, `new` is what the call left of that, and `new` is a legal history of the
-  -- opened book
+  -- refusal without the lock, `TicketsEnded` or `Busy`, adds nothing. Otherwise the call found
+  -- `old` followed by calls of other viewers only, `new` is what the call made of that, and `new`
+  -- is a legal history of the opened book
   abbrev pub SeesAfter : ℕ → List (ℕ × Call) → Command → Answer → List (ℕ × Call) → Type 0
   SeesAfter viewer old command (Err TicketsEnded) new = new ≡ old
   SeesAfter viewer old command (Err (Busy words)) new = new ≡ old
@@ -30,8 +30,8 @@ module _ (opened : BookState) where
 
 module _ {T O : Type 0} {K : Ghosts T Call O} where
   -- what a refusal without the lock tells of its two words. At `TicketsEnded` the viewer knows that
-  -- `next` has reached 2^63. `Busy` has the greatest words that the viewer has seen, and they
-  -- differ. Any other answer tells nothing of them
+  -- `next` has reached 2^63. `Busy` has the greatest words that the viewer has seen, `served` below
+  -- `next` and `next` below 2^63. Any other answer tells nothing of them
   abbrev pub KnowsWords : Pass T Call O K → Answer → Type 0
   KnowsWords pass (Err TicketsEnded) = IsMissed pass missed.TicketsEnded
   KnowsWords pass (Err (Busy words)) = IsMissed pass (missed.Busy words)
@@ -44,12 +44,13 @@ module _ {T O : Type 0} {K : Ghosts T Call O} where
     pub record KnowsAfterCall : Type 0 where
       pub same_number : number new ≡ number old
       pub has_seen : SeesAfter opened (number old) (seen old) command answer (seen new)
-      pub grown : KnowsMore old new
+      pub grown : KnowsNoLess old new
       pub words : KnowsWords new answer
 
-    -- what a viewer knows after a call that may wait. The answer is never `Busy` (`waits`). A
-    -- viewer that had seen all tickets drawn gets `TicketsEnded` (`ended`)
+    -- what a viewer knows after a call that may wait: what it knows after any call (`outcome`). The
+    -- answer is never `Busy` (`never_busy`). A viewer that had seen all tickets drawn gets
+    -- `TicketsEnded` (`ended`)
     pub record KnowsAfterAsk : Type 0 where
       pub outcome : KnowsAfterCall
-      pub waits : IfErr answer IsRefusalOfAsk
+      pub never_busy : IfErr answer IsRefusalOfAsk
       pub ended : next_seen old ≡ 2 ^ 63 → answer ≡ Err TicketsEnded

@@ -26,6 +26,7 @@ module _ {R : ℕ} where
     abbrev pub IsViewerOf : Desk R → Pass (BookWithHistory R) Call (Book R) K → Type 0
     IsViewerOf desk pass = IsPassOf desk.lock pass × IsOut pass
 
-    -- the pass belongs to a desk that was just opened, with both words of its lock at 0
+    -- the pass is one of this desk, and as it was when the desk was opened: it is in no call, has
+    -- seen no history, and knows the lock's words as they began, both 0
     abbrev pub IsNewViewer : Desk R → Pass (BookWithHistory R) Call (Book R) K → Type 0
     IsNewViewer desk pass = IsNewPass desk.lock 0 pass

@@ -46,10 +46,10 @@ IsLeftBy b es book = ∥ EntriesLeadTo b es (book_state book) (journal (session_
 abbrev pub IsCapacity : ℕ → Type 0
 IsCapacity n = ∥ (n ≡ 0) ⊎ ((k : ℕ) × (n ≡ 4 * 2 ^ k)) ∥₁
 
--- what a call under the lock makes of the history that it found. If it is answered, the viewer's
--- call is added. `HistoryFull` means that there are MOST_CALLS calls. `NotRecorded` means that
--- there are fewer, at a length at which the list may be full. Both leave the history as it was, and
--- there is no other refusal
+-- what a call under the lock makes of the history that it found. If it is answered, there were
+-- fewer than MOST_CALLS calls, and the viewer's call is added. `HistoryFull` means that there are
+-- MOST_CALLS calls. `NotRecorded` means that there are fewer, at a length at which the list may be
+-- full. Both leave the history as it was, and there is no other refusal
 abbrev pub LeavesHistory : ℕ → List (ℕ × Call) → Command → Answer → List (ℕ × Call) → Type 0
 LeavesHistory viewer found command (Ok answer) new = (length found < MOST_CALLS) × (new ≡ found ++ viewer_entry viewer command answer ∷ [])
 LeavesHistory viewer found command (Err HistoryFull) new = (length found ≡ MOST_CALLS) × (new ≡ found)

@@ -1,4 +1,5 @@
--- The room that is made for a viewer's answers.
+-- The room that is made for a viewer's answers. A viewer is its pass (`.0`) with its commands
+-- (`.1`).
 use Rattle.std.specs.Prelude.{◌≡◌, [], length, Vec, vec_capacity}
 
 -- the list for this viewer's answers is empty, and has room for just one answer to each of its

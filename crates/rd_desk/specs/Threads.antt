@@ -1,4 +1,6 @@
--- What the handle of a viewer's thread promises, and what the viewer gives back.
+-- What the handle of a viewer's thread promises, and what the viewer gives back. A viewer is its
+-- pass (`.0`) with its commands (`.1`). `takes` and `told` are those of the gate's type, as `Gate`
+-- describes them.
 use Rattle.std.specs.Prelude.{◌≡◌, Option, Result, Ok, Err, Vec}
 use Rattle.std.specs.declared.alloc.Global.{Global}
 use Rattle.std.specs.declared.thread.PromisedHandle.{PromisedHandle}
@@ -14,7 +16,7 @@ abbrev pub IsStarted : {G P : Type 0} → (G → P → Type 0) → (G → P → 
 IsStarted takes told gate viewer (Err done) = IsDone (takes gate) (told gate) viewer.0 viewer.1.items done
 IsStarted takes told gate viewer (Ok handle) = (handle.promise.gate.value ≡ gate) × (handle.promise.pass.value ≡ viewer.0) × (handle.promise.commands.value ≡ viewer.1)
 
--- for each gate and viewer for which this handle may have been started, `done` is what the viewer
--- gives back
+-- for each gate and viewer for which this may be the thread's handle, or what the closure gave back
+-- (`IsStarted`), `done` is what the viewer gives back (`IsDone`)
 abbrev pub IsJoined : {G P : Type 0} → (G → P → Type 0) → (G → P → Command → Answer → P → Type 0) → Result (PromisedHandle (P × Option (Vec Answer Global)) (Asked G P)) (P × Option (Vec Answer Global)) → P × Option (Vec Answer Global) → Type 0
 IsJoined {G = G} {P = P} takes told handle done = (gate : G) (viewer : P × Vec Command Global) → IsStarted takes told gate viewer handle → IsDone (takes gate) (told gate) viewer.0 viewer.1.items done

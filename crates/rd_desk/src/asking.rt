@@ -75,7 +75,7 @@ impl<const R: usize> Desk<R> {
         requires taken { IsTaken self.now.lock pass.old pass.old kept }
         ensures own { IsViewerOf self.now pass.new }
         ensures outcome { KnowsAfterCall (opened_state self.now) pass.old pass.new command result }
-        ensures waits { IfErr result IsRefusalOfAsk }
+        ensures never_busy { IfErr result IsRefusalOfAsk }
     {
         let answer = kept.obey_and_record(pass.number(), &command);
         self.lock.put_back(pass, kept);

@@ -1,5 +1,5 @@
-//! The desk: a book with its history under the ticket lock. Here are opening, comparing passes and
-//! closing; the calls are in `asking`.
+//! The desk: a book with its history under the ticket lock. Here are opening, the meeting of two
+//! passes, and closing; the calls are in `asking`.
 
 ghost use Rattle.std.specs.Prelude.{◌≡◌, ◌<◌, ◌≤◌, ◌^◌, map, IfOk, IfErr, IsOk};
 ghost use Rattle.rd_lock.specs.Lists.{HasAllUpTo, AreComparable};
@@ -59,9 +59,10 @@ impl<const R: usize> Desk<R> {
         }
     }
 
-    /// Compares two passes: of the histories that they have seen, one begins with the other.
-    /// Returns the ticket that is served now, and both passes, which have then seen it served.
-    /// Neither had seen a later ticket served. Both must be passes of this desk, and in no call.
+    /// Lets two passes meet: in one step both see the ticket that is served now. Returns this
+    /// ticket and both passes. Neither had seen a later ticket served. Of the histories that they
+    /// have seen, one begins with the other; the call doesn't tell which. Both must be passes of
+    /// this desk, and in no call.
     pub fn meet(&self, one: DeskPass<R>, other: DeskPass<R>) -> (u64, DeskPass<R>, DeskPass<R>)
         requires own { IsViewerOf self.now one × IsViewerOf self.now other }
         ensures own { IsViewerOf self.now result.1 × IsViewerOf self.now result.2 }

@@ -29,8 +29,9 @@ pub fn own_calls_grow_by_the_answered_one()
         → put_by viewer 1 new ≡ put_by viewer 1 old }
 {}
 
-/// Whenever the lock is taken, the headline holds between the opened book and the book that is
-/// there now, for the commands of the history and the answers that it records.
+/// In each book with its history, and so whenever the lock is taken, the headline holds between the
+/// opened book and the book that is there now, for the commands of the history and the answers that
+/// it records.
 pub fn the_headline_holds_of_a_history<const R: usize>(kept: &BookWithHistory<R>)
     ensures { IsLeftBy (book_state kept.now.opened.value)
         (entries kept.now.history) kept.now.book.value }

@@ -43,7 +43,7 @@ impl<const R: usize> Recorded for BookWithHistory<R> {
 }
 
 impl<const R: usize> BookWithHistory<R> {
-    /// Returns a book with an empty history.
+    /// Returns this book as the opened one, with an empty history.
     ///
     /// # Errors
     ///

@@ -45,7 +45,8 @@ impl<G: Gate> Promise<Done<G>> for Asked<G> {
 
 /// Asks each command in order, and returns the pass with the answers. The gate must take the pass,
 /// and the list `answers` must be empty and have room for an answer to each command. If the word
-/// `refused` has this viewer's index, it asks nothing and returns the pass as it was, with `None`.
+/// `refused` has this viewer's index, from 0, it asks nothing and returns the pass as it was, with
+/// `None`.
 fn ask_all<R: Wait, G: Gate>(
     rt: &R,
     gate: &G,
@@ -71,9 +72,11 @@ fn ask_all<R: Wait, G: Gate>(
 }
 
 /// Starts a thread for each viewer, in order, and returns their handles. For a viewer whose thread
-/// is refused, it returns what the closure gives back: the pass as it was, since it asks nothing.
-/// The gate must take the passes. `answers` must have an empty list for each viewer, with room for
-/// just the answers to its commands, and `started` must be empty and have room for each viewer.
+/// is refused, it puts the viewer's index, from 0, into the word `refused`, and returns what the
+/// closure then gives back: the pass as it was, since it asks nothing. At the call this word must
+/// not be a viewer's index, or that viewer may ask nothing; no clause says so. The gate must take
+/// the passes. `answers` must have an empty list for each viewer, with room for just the answers to
+/// its commands, and `started` must be empty and have room for each viewer.
 fn start_all<'s, E: 's, R: Threads + Wait + Sync, G: Gate + Sync>(
     scope: &'s Scope<'s, E>,
     rt: &'s R,

@@ -5,7 +5,7 @@
 
 ghost use Rattle.std.specs.Prelude.{◌≡◌, ◌≤◌, [], length, map, vec_capacity, IfOk, IfErr};
 ghost use Rattle.std.specs.List.{AllByRecursion, AllZip};
-ghost use Rattle.rd_desk.specs.Viewers.{IsDone, IsRan, run_ending};
+ghost use Rattle.rd_desk.specs.Viewers.{IsDone, IsRunEnding, run_ending};
 
 use super::gates::{Answer, Gate};
 use super::rooms::Room;
@@ -72,7 +72,7 @@ pub fn run_viewers<R: Threads + Wait + Sync, G: Gate + Sync>(
 ) -> Result<Vec<Ran<G::Pass>>, (NoMemory, Vec<(G::Pass, Vec<Command>)>)>
     requires own { AllByRecursion (λ viewer. G.takes gate.now viewer.0) work.items }
     ensures ok { IfOk result (λ rans. AllZip
-        (IsRan (G.takes gate.now) (G.told gate.now)) work.items rans.items) }
+        (IsRunEnding (G.takes gate.now) (G.told gate.now)) work.items rans.items) }
     ensures err { IfErr result (λ refused. refused.1 ≡ work) }
 {
     let Ok(rans) = Vec::with_capacity(alloc, work.len()) else {

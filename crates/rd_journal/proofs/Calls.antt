@@ -1,5 +1,5 @@
 -- What the calls of a session answer, over its journal.
-use Rattle.rd_journal.proofs.Prelude.{◌≡◌, ℕ, ◌+◌, ◌-◌, ◌<◌, ◌≤◌, ◌⊎◌, refl, sym, ◌∙◌, ap, subst, List, [], ◌∷◌, ◌++◌, length, get_or, ok_or, Result, Ok, Err, IsOk, IfErr, inl, inr, arith, ne_eqb, length-append, opened_with, and_then, result_map, cond-false, map-append, length-map, take-map, slice_get_past, slice_get-get_or, slice_get-map, Refusal, Stepped, step, IsWellFormed, MOST_STEPS, Event, Entry, model, room, live_entries, ahead_entries, kept_entries, IsIndexOf, whole_journal, journal, state, MayLackMemory, Journal, events, IsRun, entry_of, IsSession, HasRoom, State, state_of, with_event, apply, back, forward, live_event, IsLengthened, IsMovedBack, IsRunWithoutLast, AsksForMemory, Entries, slice_get_cases, Session}
+use Rattle.rd_journal.proofs.Prelude.{◌≡◌, ℕ, ◌+◌, ◌-◌, ◌<◌, ◌≤◌, ◌⊎◌, refl, sym, ◌∙◌, ap, subst, List, [], ◌∷◌, ◌++◌, length, get_or, ok_or, Result, Ok, Err, IsOk, IfErr, inl, inr, arith, ne_eqb, length-append, opened_with, and_then, result_map, cond-false, map-append, length-map, take-map, slice_get_past, slice_get-get_or, slice_get-map, Refusal, Stepped, step, IsWellFormed, MOST_STEPS, Event, Entry, model, room, live_entries, ahead_entries, kept_entries, IsIndexOf, whole_journal, journal, state, MayLackMemory, Journal, events, IsRun, entry_of, IsSession, HasRoomToRedo, State, state_of, with_event, apply, back, forward, live_event, IsAppendedToLive, IsMovedBack, IsRunWithoutLast, AsksForMemory, Entries, slice_get_cases, Session}
 use Rattle.rd_journal.specs.Sessions.{KeepsItsSteps, MayRefuse, capacity, room as session_room, index}
 use Rattle.std.specs.declared.snapshot.Snapshot.{Snapshot}
 use Rattle.rd_step.specs.declared.worlds.World.{World as CodeWorld}
@@ -64,7 +64,7 @@ went_through r f y h1 = grind arith
 -- One more step
 
 pub longer_session : (old new : Journal) (e : Event) (x : Entry) (before after : ℕ → ℕ)
-    → IsSession old before → length old.live < MOST_STEPS → step old.world e ≡ Ok (record { world = new.world; entry = x }) → new.start ≡ old.start → IsLengthened x old new
+    → IsSession old before → length old.live < MOST_STEPS → step old.world e ≡ Ok (record { world = new.world; entry = x }) → new.start ≡ old.start → IsAppendedToLive x old new
     → IsSession new after
 longer_session old new e x before after session less h start longer =
     let whole : new ≡ record { start = old.start; world = new.world; live = old.live ++ x ∷ []; undone = [] } =
@@ -72,7 +72,7 @@ longer_session old new e x before after session less h start longer =
     record {
       few = omega (arith, ap length longer.live, length-append old.live (x ∷ []), ap length longer.undone);
       runs = subst (λ (j : Journal). IsRun j) (sym whole) (is_run-with_step old.start old.world new.world old.live old.undone [] x e session.runs h refl);
-      has_room = subst (λ (ys : List Entry). HasRoom ys after) (sym longer.undone) (record { at = λ k. omega arith });
+      has_room = subst (λ (ys : List Entry). HasRoomToRedo ys after) (sym longer.undone) (record { at = λ k. omega arith });
     }
 
 -- a session that opens in a world
@@ -127,7 +127,7 @@ may_lack s e out = record {
   ];
 }
 
--- so what the session may refuse an event with, its state may
+-- so each cause with which the session may refuse an event is one with which its state may
 pub may_refuse-state : {R : ℕ} {X : Type 0} (s : Session R) (e : Event) (r : Result X Refusal) → IfErr r (MayRefuse s e)
     → IfErr r (λ cause. (apply (state s) e ≡ Err cause) ⊎ ((cause ≡ refusal.NoMemory) × MayLackMemory (state s) e))
 may_refuse-state s e (Ok x) h = h
@@ -139,7 +139,7 @@ pub apply_refused : (j : Journal) (e : Event) (refusal : Refusal) → IsRun j �
 apply_refused j e refusal runs less h = applied j e (Err refusal) runs less h
 
 pub apply_goes : (old new : Journal) (e : Event) (x : Entry) → IsRun old → length old.live < MOST_STEPS
-    → step old.world e ≡ Ok (record { world = new.world; entry = x }) → new.start ≡ old.start → IsLengthened x old new → apply (state_of old) e ≡ Ok (state_of new)
+    → step old.world e ≡ Ok (record { world = new.world; entry = x }) → new.start ≡ old.start → IsAppendedToLive x old new → apply (state_of old) e ≡ Ok (state_of new)
 apply_goes old new e x runs less h start longer =
     let its = step_event old.world e (record { world = new.world; entry = x }) h in
     let all : events (old.live ++ x ∷ []) ≡ events old.live ++ e ∷ [] =

@@ -1,6 +1,6 @@
 -- What the index of the live entries and those ahead finds, and where the entries before a closure
 -- are.
-use Rattle.rd_journal.proofs.Prelude.{◌≡◌, ℕ, zero, suc, ◌+◌, ◌-◌, ◌<◌, ◌≤◌, Bool, true, false, nat_lt, if◌then◌else◌, List, [], ◌∷◌, ◌++◌, length, get_or, take, drop, Option, Some, None, sym, ◌∙◌, ap, arith, length-append, length-drop, lt-ltb, le-ltb, append_assoc, length-take-le, take_at, take-append-le, drop-append-le, slice_get-get_or, position_from, first_dependant, depends, closure_from, numbered, closure_of, without_closure, items_where_false, Entry}
+use Rattle.rd_journal.proofs.Prelude.{◌≡◌, ℕ, zero, suc, ◌+◌, ◌-◌, ◌<◌, ◌≤◌, Bool, true, false, nat_lt, if◌then◌else◌, List, [], ◌∷◌, ◌++◌, length, get_or, take, drop, Option, Some, None, sym, ◌∙◌, ap, arith, length-append, length-drop, lt-ltb, le-ltb, append_assoc, length-take-le, take_at, take-append-le, drop-append-le, slice_get-get_or, position_from, first_dependant, depends, closure_from, numbered, closure_entries, without_closure, items_where_false, Entry}
 use Rattle.rd_journal.proofs.Gathering.{cut_at}
 use Rattle.rd_journal.proofs.ListLemmas.{nth}
 
@@ -19,8 +19,8 @@ outside_begins l (suc i) some within =
 -- cut before its k-th position
 pub record IsCutBefore (l others : List Entry) (k : ℕ) : Type 0 where
   pub long : k - 1 ≤ length (without_closure l k)
-  pub before : take (k - 1) ((without_closure l k ++ closure_of l k) ++ others) ≡ take (k - 1) l
-  pub behind : drop (k - 1) ((without_closure l k ++ closure_of l k) ++ others) ≡ drop (k - 1) (without_closure l k) ++ (closure_of l k ++ others)
+  pub before : take (k - 1) ((without_closure l k ++ closure_entries l k) ++ others) ≡ take (k - 1) l
+  pub behind : drop (k - 1) ((without_closure l k ++ closure_entries l k) ++ others) ≡ drop (k - 1) (without_closure l k) ++ (closure_entries l k ++ others)
 
 pub cut_before : (l others : List Entry) (k : ℕ) → 1 ≤ k → k ≤ length l → IsCutBefore l others k
 cut_before l others k some within =

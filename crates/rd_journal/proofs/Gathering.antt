@@ -1,13 +1,13 @@
 -- The causal closure of a step gathered behind the other entries: the parts of the list meanwhile,
 -- and the run that it still is.
-use Rattle.rd_journal.proofs.Prelude.{◌≡◌, ℕ, zero, suc, ◌-◌, ◌<◌, ◌≤◌, true, false, if◌then◌else◌, ◌∙◌, arith, inl, inr, List, [], ◌∷◌, ◌++◌, length, take, drop, get_or, Ok, cases_Bool, or_parts, append-nil, append_assoc, World, run, depends, depends_on_any, items_where_true, items_where_false, closure_of, without_closure, closure_from, Entry, run-cons, events, beginning, commutes}
+use Rattle.rd_journal.proofs.Prelude.{◌≡◌, ℕ, zero, suc, ◌-◌, ◌<◌, ◌≤◌, true, false, if◌then◌else◌, ◌∙◌, arith, inl, inr, List, [], ◌∷◌, ◌++◌, length, take, drop, get_or, Ok, cases_Bool, or_parts, append-nil, append_assoc, World, run, depends, depends_on_any, items_where_true, items_where_false, closure_entries, without_closure, closure_from, Entry, run-cons, events, beginning, commutes}
 
 -- The closure, cut at its first entry
 
 -- the closure of the entry at index i, and the entries outside, by the marks of the later entries
 pub record CutAt (l : List Entry) (i : ℕ) (x : Entry) : Type 0 where
   pub outside : without_closure l (suc i) ≡ take i l ++ items_where_false (closure_from (x ∷ []) (drop (suc i) l)) (drop (suc i) l)
-  pub inside : closure_of l (suc i) ≡ x ∷ items_where_true (closure_from (x ∷ []) (drop (suc i) l)) (drop (suc i) l)
+  pub inside : closure_entries l (suc i) ≡ x ∷ items_where_true (closure_from (x ∷ []) (drop (suc i) l)) (drop (suc i) l)
 
 pub cut_at : (l : List Entry) (i : ℕ) (x : Entry) → i < length l → x ≡ get_or l i x → CutAt l i x
 cut_at (y ∷ l) (suc i) x h here = grind (arith, cut_at l i x (omega arith) here)
@@ -19,7 +19,7 @@ cut_at l i x h here = grind arith
 -- will part
 pub record Gathering (l : List Entry) (k : ℕ) (before block later : List Entry) : Type 0 where
   pub outside : without_closure l k ≡ before ++ items_where_false (closure_from block later) later
-  pub inside : closure_of l k ≡ block ++ items_where_true (closure_from block later) later
+  pub inside : closure_entries l k ≡ block ++ items_where_true (closure_from block later) later
 
 pub gathering_first : (l : List Entry) (k : ℕ) (x : Entry) → 1 ≤ k → k ≤ length l → x ≡ get_or l (k - 1) x
     → Gathering l k (take (k - 1) l) (x ∷ []) (drop k l)
@@ -35,7 +35,7 @@ joins l before block later k x g h = grind (arith, append_assoc)
 pub gathered_outside : (l before block : List Entry) (k : ℕ) → Gathering l k before block [] → without_closure l k ≡ before
 gathered_outside l before block k g = g.outside ∙ append-nil before
 
-pub gathered_inside : (l before block : List Entry) (k : ℕ) → Gathering l k before block [] → closure_of l k ≡ block
+pub gathered_inside : (l before block : List Entry) (k : ℕ) → Gathering l k before block [] → closure_entries l k ≡ block
 gathered_inside l before block k g = g.inside ∙ append-nil block
 
 -- The run

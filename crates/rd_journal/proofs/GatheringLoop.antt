@@ -1,6 +1,6 @@
 -- The loop that gathers the closure of a step: what it has done so far, and what it has done at the
 -- end.
-use Rattle.rd_journal.proofs.Prelude.{suc, drop-cons, common_steps, count_by, append_assoc, take-append-drop, take-take, length-take-le, length-set, get_or-take, drop_at, drop-append-le, drop-set-lt, drop_all, take_at, take_more_set, sum_by-append, sum_by-cons, sum_by_push, depends_on_any, closure_of, without_closure, Entry, DependIndex, IsIndexOf, HasRoomFor, at_numbers, IsOrder, ◌≡◌, ℕ, ◌+◌, ◌-◌, ◌<◌, ◌≤◌, Bool, true, false, cond, refl, sym, ◌∙◌, ap, arith, List, [], ◌∷◌, ◌++◌, length, take, drop, set, get_or, length-append, length-drop}
+use Rattle.rd_journal.proofs.Prelude.{suc, drop-cons, common_steps, count_by, append_assoc, take-append-drop, take-take, length-take-le, length-set, get_or-take, drop_at, drop-append-le, drop-set-lt, drop_all, take_at, take_more_set, sum_by-append, sum_by-cons, sum_by_push, depends_on_any, closure_entries, without_closure, Entry, DependIndex, IsIndexOf, HasRoomFor, at_numbers, IsOrder, ◌≡◌, ℕ, ◌+◌, ◌-◌, ◌<◌, ◌≤◌, Bool, true, false, cond, refl, sym, ◌∙◌, ap, arith, List, [], ◌∷◌, ◌++◌, length, take, drop, set, get_or, length-append, length-drop}
 use Rattle.rd_journal.proofs.Gathering.{Gathering, gathering_first, joins, gathered_outside, gathered_inside}
 use Rattle.rd_journal.proofs.RoomLemmas.{fits_between}
 use Rattle.rd_journal.proofs.ListLemmas.{drop_one_less}
@@ -145,10 +145,10 @@ stayed es ns now gathered old index k live front next v x u low within n e depen
 -- at the end the gathered numbers are behind the others
 pub record IsGathered (es : List Entry) (ns new : List ℕ) (old index : DependIndex) (k live front : ℕ) : Type 0 where
   pub ordered : IsOrder (length es) new
-  pub count : live - front ≡ length (closure_of (live_of es ns live) k)
-  pub moved : live_of es new live ≡ without_closure (live_of es ns live) k ++ closure_of (live_of es ns live) k
+  pub count : live - front ≡ length (closure_entries (live_of es ns live) k)
+  pub moved : live_of es new live ≡ without_closure (live_of es ns live) k ++ closure_entries (live_of es ns live) k
   pub behind : drop live (at_numbers es new) ≡ drop live (at_numbers es ns)
-  pub indexed : IsIndexOf index (take (k - 1) (live_of es ns live) ++ closure_of (live_of es ns live) k)
+  pub indexed : IsIndexOf index (take (k - 1) (live_of es ns live) ++ closure_entries (live_of es ns live) k)
   pub room : (rest : List Entry) → HasRoomFor old (drop (k - 1) (live_of es ns live) ++ rest)
       → HasRoomFor index (drop (k - 1) (without_closure (live_of es ns live) k) ++ rest)
 

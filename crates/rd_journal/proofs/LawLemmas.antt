@@ -1,6 +1,6 @@
 -- What the laws state: going back and forth, undoing steps out of their order and redoing them, and
 -- the old record and old content of an entry.
-use Rattle.rd_journal.proofs.Prelude.{◌≡◌, ℕ, suc, sym, ◌∙◌, Ok, arith, length-append, length-drop, ◌-◌, ◌≤◌, refl, ap, List, [], ◌∷◌, ◌++◌, length, take, drop, Some, None, slice_get-get_or, Result, subst, get_or, ◌+◌, ◌<◌, append_assoc, drop-drop, drop-take, take-take, take-add, length-take-le, le-ltb, ltb-false, cond-false, take_at, drop_at, take-append-drop, Journal, IsRun, State, state_of, back, forward, length-map, first_dependant, Ran, step, unstep, Entry, IsTakenOut, taken_out, IsMovedLast, IsUndoneAlone, run_of, live_event, undo_at, and_then, Refusal, map-append, World, closure, closure_of, without_closure, Event, events, IsClosureLast, undone_where_true, roll, take-map, run, run_keeps_well_formed, IsStepAfter, middle, nat_lt}
+use Rattle.rd_journal.proofs.Prelude.{◌≡◌, ℕ, suc, sym, ◌∙◌, Ok, arith, length-append, length-drop, ◌-◌, ◌≤◌, refl, ap, List, [], ◌∷◌, ◌++◌, length, take, drop, Some, None, slice_get-get_or, Result, subst, get_or, ◌+◌, ◌<◌, append_assoc, drop-drop, drop-take, take-take, take-add, length-take-le, le-ltb, ltb-false, cond-false, take_at, drop_at, take-append-drop, Journal, IsRun, State, state_of, back, forward, length-map, first_dependant, Ran, step, unstep, Entry, IsTakenOut, taken_out, IsMovedLast, IsUndoneAlone, run_of, live_event, undo_at, and_then, Refusal, map-append, World, closure, closure_entries, without_closure, Event, events, IsClosureLast, undone_where_true, roll, take-map, run, run_keeps_well_formed, IsStepAfter, middle, nat_lt}
 use Rattle.rd_journal.proofs.Runs.{as_ok, as_ok-same, step_event, is_run-with_step}
 use Rattle.rd_journal.proofs.ListLemmas.{IsNumber, nth, from_it, drop_before}
 use Rattle.rd_depend.proofs.Elements.{around-element}
@@ -116,14 +116,14 @@ rolled : (s t : State) (r : Ran) (n : ℕ) → run_of s ≡ Ok r → roll s n �
 rolled s t r n ran k = grind (arith, went_through, is_live)
 
 pub closure_redone : (i j k : Journal) (n : ℕ) → IsRun i → IsRun k → roll (state_of i) n ≡ Ok (state_of j)
-    → forward (state_of j) (length (closure_of i.live n)) ≡ Ok (state_of k) → IsClosureLast n i k
+    → forward (state_of j) (length (closure_entries i.live n)) ≡ Ok (state_of k) → IsClosureLast n i k
 closure_redone i j k n ri rk back on =
     let went = rolled (state_of i) (state_of j) (record { world = i.world; entries = i.live }) n ri.live_ran back in
     let its = λ (x : Entry). x.event in
     let within : n ≤ length i.live = omega (arith, went.1, length-map i.live its) in
     let re = closure_last-is_run i n went.0 within ri in
     let xs = without_closure i.live n in
-    let ys = closure_of i.live n in
+    let ys = closure_entries i.live n in
     let left : state_of j ≡ record { start = i.start; live = events xs; undone = events ys ++ events i.undone } =
     grind (arith, went.2, items_where_false-map, marked-map) in
     let there : state_of k ≡ record { start = i.start; live = events xs ++ events ys; undone = events i.undone } =

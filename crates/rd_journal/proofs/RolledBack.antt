@@ -1,5 +1,5 @@
 -- Rolling back a live step with all that depends on it, over whole journals.
-use Rattle.rd_journal.proofs.Prelude.{◌≡◌, ℕ, zero, suc, ◌+◌, ◌-◌, ◌≤◌, Bool, refl, sym, ◌∙◌, ap, arith, List, [], ◌∷◌, ◌++◌, length, take, drop, Some, None, slice_get-get_or, ◌<◌, ◌⊎◌, subst, Ok, Err, depends, first_dependant, closure_of, without_closure, items_where_true, items_where_false, closure_from, position_from, Entry, Journal, IsUndoneAlone, IsRolledBack, append_assoc, map-append, World, run, run-cons, events, IsRun, IsRunWithoutClosure, roll_answer, IsSession, state_of, roll, middle}
+use Rattle.rd_journal.proofs.Prelude.{◌≡◌, ℕ, zero, suc, ◌+◌, ◌-◌, ◌≤◌, Bool, refl, sym, ◌∙◌, ap, arith, List, [], ◌∷◌, ◌++◌, length, take, drop, Some, None, slice_get-get_or, ◌<◌, ◌⊎◌, subst, Ok, Err, depends, first_dependant, closure_entries, without_closure, items_where_true, items_where_false, closure_from, position_from, Entry, Journal, IsUndoneAlone, IsRolledBack, append_assoc, map-append, World, run, run-cons, events, IsRun, IsRunWithoutClosure, roll_answer, IsSession, state_of, roll, middle}
 use Rattle.rd_journal.proofs.Gathering.{cut_at, gathered_run}
 use Rattle.rd_journal.proofs.Finding.{numbered_in, scan_is}
 use Rattle.rd_journal.proofs.Runs.{runs_joined}
@@ -30,10 +30,10 @@ alone_rolled (suc i) old new some within free out =
 
 -- the journal with the closure of k after the other live entries
 abbrev pub closure_last : Journal → ℕ → Journal
-closure_last j k = record { start = j.start; world = j.world; live = without_closure j.live k ++ closure_of j.live k; undone = j.undone }
+closure_last j k = record { start = j.start; world = j.world; live = without_closure j.live k ++ closure_entries j.live k; undone = j.undone }
 
 reordered_run : (s w : World) (l : List Entry) (i : ℕ) → i < length l → run s (events l) ≡ Ok (record { world = w; entries = l })
-    → let zs = without_closure l (suc i) ++ closure_of l (suc i) in run s (events zs) ≡ Ok (record { world = w; entries = zs })
+    → let zs = without_closure l (suc i) ++ closure_entries l (suc i) in run s (events zs) ≡ Ok (record { world = w; entries = zs })
 reordered_run s w l i low h =
     let found = nth l i low in
     let x = found.0 in
@@ -44,7 +44,7 @@ reordered_run s w l i low h =
     let m = middle s xs x ys w (subst (λ (zs : List Entry). run s (events zs) ≡ Ok (record { world = w; entries = zs })) around h) in
     let from = run-cons m.before x.event (events ys) (record { world = m.after; entry = x }) (record { world = w; entries = ys }) m.goes m.rest in
     let ms = closure_from (x ∷ []) ys in
-    let same : xs ++ (items_where_false ms ys ++ x ∷ items_where_true ms ys) ≡ without_closure l (suc i) ++ closure_of l (suc i) =
+    let same : xs ++ (items_where_false ms ys ++ x ∷ items_where_true ms ys) ≡ without_closure l (suc i) ++ closure_entries l (suc i) =
     sym (append_assoc xs (items_where_false ms ys) (x ∷ items_where_true ms ys)) ∙ (λ t. sym c.outside t ++ sym c.inside t) in
     subst (λ (qs : List Entry). run s (events qs) ≡ Ok (record { world = w; entries = qs })) same
     (runs_joined s m.before w xs (items_where_false ms ys ++ x ∷ items_where_true ms ys) m.ran (gathered_run m.before w (x ∷ []) ys from))
@@ -65,7 +65,7 @@ closure_last-is_run j (suc i) some within runs =
 pub record IsGatheredLast (k : ℕ) (old new : Journal) : Type 0 where
   pub start : new.start ≡ old.start
   pub world : new.world ≡ old.world
-  pub live : new.live ≡ without_closure old.live k ++ closure_of old.live k
+  pub live : new.live ≡ without_closure old.live k ++ closure_entries old.live k
   pub undone : new.undone ≡ old.undone
   pub len : length new.live ≡ length old.live
 

@@ -1,5 +1,5 @@
 -- Entries of a run put after the first live ones, and the room that their makings need.
-use Rattle.rd_journal.proofs.Prelude.{common_steps, take-suc, cases_Bool, map-append, take-map, length-take-le, SegName, Place, Content, after, World, Stepped, step, run, MOST_STEPS, Event, Entry, room_used, room_returned, step_stages, with_actor-other, room_used_returned, Journal, events, IsRun, IsRunFrom, LeadsTo, IsSwitched, IsSession, room_returned_by, room_after_undoing, HasRoom, HasRoomForActors, state_of, switch, run_stays_actor, beginning, first_step, ◌≡◌, ◌≢◌, ℕ, zero, suc, ◌+◌, ◌-◌, ◌<◌, ◌≤◌, ◌==◌, Bool, false, refl, sym, ◌∙◌, ap, subst, arith, inl, inr, List, [], ◌∷◌, ◌++◌, length, take, drop, set, get_or, if◌then◌else◌, Option, Some, None, is_some, IsSome, Ok, length-append, made_segment, made_segment_at}
+use Rattle.rd_journal.proofs.Prelude.{common_steps, take-suc, cases_Bool, map-append, take-map, length-take-le, SegName, Place, Content, after, World, Stepped, step, run, MOST_STEPS, Event, Entry, room_used, room_returned, step_stages, with_actor-other, room_used_returned, Journal, events, IsRun, IsRunFrom, LeadsTo, IsSwitched, IsSession, room_returned_by, room_after_undoing, HasRoomToRedo, ActorsHaveRoom, state_of, switch, run_stays_actor, beginning, first_step, ◌≡◌, ◌≢◌, ℕ, zero, suc, ◌+◌, ◌-◌, ◌<◌, ◌≤◌, ◌==◌, Bool, false, refl, sym, ◌∙◌, ap, subst, arith, inl, inr, List, [], ◌∷◌, ◌++◌, length, take, drop, set, get_or, if◌then◌else◌, Option, Some, None, is_some, IsSome, Ok, length-append, made_segment, made_segment_at}
 use Rattle.rd_journal.proofs.Runs.{runs_joined, as_ok-same, live_lead}
 
 -- Counting makings
@@ -58,7 +58,7 @@ rest_runs_on s w (x ∷ xs) ys h k = grind (arith, first_step s x (xs ++ ys) k, 
 
 -- there is room for every maker if there is for those that are actors after the live steps
 pub room_for_all : (s w : World) (xs ys : List Entry) (room : ℕ → ℕ) → run s (events xs) ≡ Ok (record { world = w; entries = xs })
-    → (n : ℕ) → IsRunFrom s (take n xs ++ ys) → HasRoomForActors w ys room → HasRoom ys room
+    → (n : ℕ) → IsRunFrom s (take n xs ++ ys) → ActorsHaveRoom w ys room → HasRoomToRedo ys room
 room_for_all s w xs ys room ran n h has = record {
   at = λ m.
       elim (cases_Bool (is_some (s.actor m))) [
@@ -67,8 +67,8 @@ room_for_all s w xs ys room ran n h has = record {
       ];
 }
 
--- the given steps were made after the first n live ones: the session is one, and its state is the
--- switched one
+-- the given steps were made after the first n live ones: the new journal is one that a session may
+-- have, with room for its undone makings, and its state is the switched one
 pub record IsExchanged (n : ℕ) (given : List Entry) (old new : Journal) (room : ℕ → ℕ) : Type 0 where
   pub session : IsSession new room
   pub state : state_of new ≡ switch (state_of old) n (events given)
@@ -92,8 +92,8 @@ exchanged n old new given again steps w room start runs within few all back_to s
 -- makings
 pub may_exchange : (n : ℕ) (old : Journal) (given again steps : List Entry) (w : World) (before after : ℕ → ℕ) → IsRun old → steps ≡ old.live
     → ((start : World) → LeadsTo start old.world steps → LeadsTo start w (take n steps)) → ((m : ℕ) → before m + room_returned_by (drop n steps) m ≤ after m)
-    → IsRunFrom old.start (take n old.live ++ given) → HasRoomForActors old.world given (room_after_undoing (drop n old.live) before) → again ≡ given
-    → IsRunFrom w again × HasRoom again after
+    → IsRunFrom old.start (take n old.live ++ given) → ActorsHaveRoom old.world given (room_after_undoing (drop n old.live) before) → again ≡ given
+    → IsRunFrom w again × HasRoomToRedo again after
 may_exchange n old given again steps w before after runs all back_to gives run_on makings same =
     let s = old.start in
     let kept = take n old.live in
@@ -101,7 +101,7 @@ may_exchange n old given again steps w before after runs all back_to gives run_o
     let has = room_for_all s old.world old.live given (room_after_undoing (drop n old.live) before) runs.live_ran n run_on makings in
     let gone = ap (λ (xs : List Entry). drop n xs) all in (
       subst (λ (xs : List Entry). IsRunFrom w xs) (sym same) (rest_runs_on s w kept given leads.ran run_on),
-      subst (λ (xs : List Entry). HasRoom xs after) (sym same)
+      subst (λ (xs : List Entry). HasRoomToRedo xs after) (sym same)
           (record { at = λ m. omega (arith, has.at m, gives m, ap (λ (xs : List Entry). room_returned_by xs m) gone) }),
     )
 
@@ -113,9 +113,9 @@ room_for_one_more xs number before after had more one n h = grind arith
 
 pub room_for_actors : (w v : World) (xs : List Entry) (number : ℕ) (room : ℕ → ℕ) → v ≡ w
     → ((n : ℕ) → n < number → room_returned_by xs (suc n) ≤ room (suc n))
-    → (IsSome (w.actor zero) → ⊥) → ((n : ℕ) → IsSome (w.actor (suc n)) → n < number) → HasRoomForActors v xs room
+    → (IsSome (w.actor zero) → ⊥) → ((n : ℕ) → IsSome (w.actor (suc n)) → n < number) → ActorsHaveRoom v xs room
 room_for_actors w v xs number room same made none count =
-    subst (λ (u : World). HasRoomForActors u xs room) (sym same) (record { at = each })
+    subst (λ (u : World). ActorsHaveRoom u xs room) (sym same) (record { at = each })
   where
     each : (m : ℕ) → IsSome (w.actor m) → room_returned_by xs m ≤ room m
     each zero there = absurd (none there)

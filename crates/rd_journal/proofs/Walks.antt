@@ -1,5 +1,5 @@
 -- Undoing a journal's last live steps, redoing its first undone ones, and how the state changes.
-use Rattle.rd_journal.proofs.Prelude.{run_joined, ◌≡◌, ℕ, ◌+◌, ◌-◌, ◌≤◌, sym, ◌∙◌, ap, subst, List, ◌++◌, length, take, drop, Ok, arith, length-append, le-ltb, cond-false, append_assoc, map-append, length-map, take-map, drop-map, take-append-drop, World, run, Entry, runs_to, Journal, events, IsRun, IsRunFrom, LeadsTo, IsSession, IsMovedBack, IsMovedForward, room_returned_by, HasRoom, state_of, back, forward}
+use Rattle.rd_journal.proofs.Prelude.{run_joined, ◌≡◌, ℕ, ◌+◌, ◌-◌, ◌≤◌, sym, ◌∙◌, ap, subst, List, ◌++◌, length, take, drop, Ok, arith, length-append, le-ltb, cond-false, append_assoc, map-append, length-map, take-map, drop-map, take-append-drop, World, run, Entry, runs_to, Journal, events, IsRun, IsRunFrom, LeadsTo, IsSession, IsMovedBack, IsMovedForward, room_returned_by, HasRoomToRedo, state_of, back, forward}
 use Rattle.rd_journal.proofs.Runs.{runs_joined, runs_since, live_lead}
 use Rattle.rd_journal.proofs.Switching.{returned_joined, rest_runs_on}
 
@@ -30,13 +30,13 @@ session_back n left old new steps before after start within session all many lea
           (subst (λ (xs : List Entry). run s (events xs) ≡ Ok (record { world = new.world; entries = xs })) (sym moved.live) led.ran)
           (rest_runs_on s new.world l new.undone led.ran (subst (λ (xs : List Entry). IsRunFrom s xs) (sym cut) (whole_run old session.runs)));
       has_room =
-          subst (λ (xs : List Entry). HasRoom xs after) (sym moved.undone)
+          subst (λ (xs : List Entry). HasRoomToRedo xs after) (sym moved.undone)
           (record { at = λ m. omega (arith, session.has_room.at m, gives m, ap (λ (xs : List Entry). room_returned_by xs m) gone, returned_joined (drop k old.live) old.undone m) });
     }
 
 -- a session after n steps forward, if these lead from the old world to the new one
 pub session_forward : (n : ℕ) (old new : Journal) (steps : List Entry) (before after : ℕ → ℕ) → new.start ≡ old.start → IsSession old before → steps ≡ take n old.undone
-    → run old.world (events steps) ≡ Ok (record { world = new.world; entries = steps }) → ((rest : List Entry) → HasRoom (steps ++ rest) before → HasRoom rest after)
+    → run old.world (events steps) ≡ Ok (record { world = new.world; entries = steps }) → ((rest : List Entry) → HasRoomToRedo (steps ++ rest) before → HasRoomToRedo rest after)
     → IsMovedForward n old new → IsSession new after
 session_forward n old new steps before after start session first goes has moved =
     let s = old.start in
@@ -49,11 +49,11 @@ session_forward n old new steps before after start session first goes has moved 
           (subst (λ (xs : List Entry). run s (events xs) ≡ Ok (record { world = new.world; entries = xs })) (sym live)
           (runs_joined s old.world new.world old.live steps session.runs.live_ran goes))
           (rest_runs_on old.world new.world steps new.undone goes (subst (λ (xs : List Entry). IsRunFrom old.world xs) (sym cut) session.runs.undone_run_on));
-      has_room = has new.undone (subst (λ (xs : List Entry). HasRoom xs before) (sym cut) session.has_room);
+      has_room = has new.undone (subst (λ (xs : List Entry). HasRoomToRedo xs before) (sym cut) session.has_room);
     }
 
 -- if there is room for the makings among some entries, there is for those among the first ones
-pub room_first : (n : ℕ) (xs : List Entry) (room : ℕ → ℕ) → HasRoom xs room → HasRoom (take n xs) room
+pub room_first : (n : ℕ) (xs : List Entry) (room : ℕ → ℕ) → HasRoomToRedo xs room → HasRoomToRedo (take n xs) room
 room_first n xs room has = record {
   at = λ m. omega (arith, returned_joined (take n xs) (drop n xs) m, ap (λ (ys : List Entry). room_returned_by ys m) (take-append-drop n xs), has.at m);
 }

@@ -4,8 +4,8 @@ use Rattle.rd_step.specs.declared.entries.Entry.{Entry}
 use Rattle.rd_journal.specs.declared.entries.Entries.{Entries}
 use Rattle.rd_journal.specs.Numbers.{at_numbers}
 
--- the entries in the order of their slots' numbers: first of the live steps, then of the steps
--- ahead of them, then the discarded ones
+-- all entries, in the order in which the list of slot numbers has them: first of the live steps,
+-- then of the steps ahead of them, then the discarded ones
 unfoldable pub all_entries : Entries → List Entry
 all_entries r = at_numbers r.slots.items r.order.items
 
@@ -22,6 +22,6 @@ ahead_entries r = take r.ahead (drop r.live (all_entries r))
 abbrev pub kept_entries : Entries → List Entry
 kept_entries r = live_entries r ++ ahead_entries r
 
--- the number of entries, live and ahead, for which there is room
+-- the number of entries, live and ahead together, for which each of the three lists has room
 abbrev pub entries_capacity : Entries → ℕ
 entries_capacity r = min (vec_capacity r.slots) (min (vec_capacity r.order) (vec_capacity r.gathered))

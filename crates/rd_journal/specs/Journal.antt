@@ -14,7 +14,7 @@ pub record Journal : Type 0 where
   pub live : List Entry
   pub undone : List Entry
 
--- these are the entries of a run that leads from a well-formed world to this one
+-- xs are the entries of a run that leads from `start`, a well-formed world, to the world w
 pub record LeadsTo (start w : World) (xs : List Entry) : Type 0 where
   pub well_formed : IsWellFormed start
   pub ran : run start (events xs) ≡ Ok (record { world = w; entries = xs })
@@ -26,7 +26,8 @@ pub record IsRun (j : Journal) : Type 0 where
   pub live_ran : run j.start (events j.live) ≡ Ok (record { world = j.world; entries = j.live })
   pub undone_run_on : IsRunFrom j.world j.undone
 
--- the entry of the live step of this number, from 1; refused with `NoSuchStep` if there is none
+-- the entry of the live step of this number, from 1; refused with `NoSuchStep`, with the number of
+-- live steps, if there is none
 abbrev pub entry_of : Journal → ℕ → Result Entry Refusal
 entry_of j k = ok_or (numbered j.live k) (refusal.NoSuchStep (length j.live))
 

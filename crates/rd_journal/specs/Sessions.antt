@@ -8,7 +8,7 @@ use Rattle.rd_step.specs.declared.entries.Event.{Event}
 use Rattle.rd_step.specs.declared.entries.Entry.{Entry}
 use Rattle.rd_journal.specs.Journal.{Journal, events, IsRunFrom}
 use Rattle.rd_journal.specs.Entries.{live_entries, ahead_entries, entries_capacity}
-use Rattle.rd_journal.specs.Room.{AsksForMemory, LacksRoom}
+use Rattle.rd_journal.specs.Room.{AsksForMemory, LacksRoomToSwitch}
 use Rattle.rd_journal.specs.SessionFields.{opened_with}
 use Rattle.rd_journal.specs.State.{State, state_of, apply}
 use Rattle.rd_cell.specs.declared.refusal.Refusal.TheVariants as refusal
@@ -40,8 +40,9 @@ capacity s = entries_capacity s.entries
 abbrev pub index : {R : ℕ} → Session R → DependIndex
 index s = s.index
 
--- a call answers as a function on states does (`wanted`): at `Ok` the function gives the session's
--- new state, and a refusal is the function's and leaves the session as it was
+-- a call answers as a function on states does, which gives `wanted` for the old state: if the call
+-- succeeds, `wanted` is the session's new state; if it is refused, `wanted` is the same refusal,
+-- and the session is as it was
 abbrev pub AnswersAs : {R : ℕ} → Result State Refusal → Result Unit Refusal → Session R → Session R → Type 0
 AnswersAs wanted (Ok _) old new = wanted ≡ Ok (state new)
 AnswersAs wanted (Err cause) old new = (wanted ≡ Err cause) × (new ≡ old)
@@ -57,18 +58,18 @@ pub record KeepsItsSteps {R : ℕ} (old new : Session R) : Type 0 where
   pub journal : journal new ≡ journal old
   pub track : track new ≡ track old
 
--- the session may refuse the event so: as its state refuses it, or for lack of memory where room is
--- missing
+-- the session may refuse the event with this cause: as its state refuses it, or with `NoMemory`
+-- where room is missing
 abbrev pub MayRefuse : {R : ℕ} → Session R → Event → Refusal → Type 0
 MayRefuse s e cause = (apply (state s) e ≡ Err cause) ⊎ ((cause ≡ refusal.NoMemory) × AsksForMemory (journal s) (capacity s) (room s) (index s) e)
 
 -- the session lacks room for going to these events: for some `kept` and `given`, the first `kept`
--- live steps stay, the entries of the other events are `given`, and room is missing for these, for
--- their makings or in the index
-pub record LacksRoomFor {R : ℕ} (s : Session R) (es : List Event) : Type 0 where
+-- live steps stay, the entries of the other events are `given`, all these are the entries of a run
+-- from the start, and room is missing for the given ones, for their makings or in the index
+pub record LacksRoomForEvents {R : ℕ} (s : Session R) (es : List Event) : Type 0 where
   pub kept : ℕ
   pub given : List Entry
   pub within : kept ≤ length (journal s).live
   pub ran : IsRunFrom (journal s).start (take kept (journal s).live ++ given)
   pub all : take kept (state s).live ++ events given ≡ es
-  pub lacks : LacksRoom kept (journal s) given (capacity s) (room s) (index s)
+  pub lacks : LacksRoomToSwitch kept (journal s) given (capacity s) (room s) (index s)

@@ -11,7 +11,7 @@
 #![tactic(auto, using(crate::proofs::EntryLemmas::lengths), unfolding(crate::specs::Entries::all_entries))]
 
 ghost use Rattle.std.specs.Prelude.{◌≡◌, ◌++◌, ◌+◌, ◌-◌, ◌<◌, ◌≤◌, ◌∷◌, [], length, get_or, take, drop, vec_capacity, OnOk, OnErr};
-ghost use Rattle.rd_step.specs.Prelude.{without, closure_of, without_closure, MOST_STEPS};
+ghost use Rattle.rd_step.specs.Prelude.{without, closure_entries, without_closure, MOST_STEPS};
 ghost use Rattle.rd_depend.specs.Index.{IsIndexOf, HasRoomFor};
 ghost use Rattle.rd_depend.specs.Moved.{moved_to};
 ghost use Rattle.rd_journal.specs.Numbers.{only_numbered, IsOrder};
@@ -20,7 +20,7 @@ mod gathering;
 mod slots;
 
 use super::entry_list::{EntryList, entry_at};
-use gathering::gather;
+use gathering::move_closure_last;
 use rd_depend::DependIndex;
 use rd_step::Entry;
 use slots::{make_room_in, move_to, put_at};
@@ -130,7 +130,7 @@ impl Entries {
         self.at(self.live + position)
     }
 
-    /// Returns the entry whose slot's number is at index `position` of the order, which must be
+    /// Returns the entry whose slot's number is at index `position` of the order. The index must be
     /// below the order's length.
     fn at(&self, position: usize) -> &Entry
         requires { position < length (all_entries self.now) }
@@ -198,18 +198,18 @@ impl Entries {
         requires before { IsIndexOf index.old (take (k - 1) (live_entries self.old)) }
         requires room { HasRoomFor index.old (drop (k - 1) (live_entries self.old)
             ++ ahead_entries self.old) }
-        ensures count { result ≡ length (closure_of (live_entries self.old) k) }
+        ensures count { result ≡ length (closure_entries (live_entries self.old) k) }
         ensures live { live_entries self.new ≡ without_closure (live_entries self.old) k
-            ++ closure_of (live_entries self.old) k }
+            ++ closure_entries (live_entries self.old) k }
         ensures ahead { ahead_entries self.new ≡ ahead_entries self.old }
         ensures len { length (live_entries self.new) ≡ length (live_entries self.old) }
         ensures capacity { entries_capacity self.new ≡ entries_capacity self.old }
         ensures index { IsIndexOf index.new (take (k - 1) (live_entries self.old)
-            ++ closure_of (live_entries self.old) k) }
+            ++ closure_entries (live_entries self.old) k) }
         ensures room { HasRoomFor index.new (drop (k - 1)
             (without_closure (live_entries self.old) k) ++ ahead_entries self.old) }
     {
-        gather(
+        move_closure_last(
             &self.slots,
             &mut self.order,
             &mut self.gathered,

@@ -79,8 +79,9 @@ fn pop_after(index: &mut DependIndex, entries: &Entries, n: usize)
     }
 }
 
-/// Puts the entries into the index that it does not have yet. The index must be that of the first
-/// so many of the live entries followed by those ahead, and have room for the others.
+/// Puts those of the live entries and of the entries ahead into the index that it doesn't have yet.
+/// The index must be that of a beginning of the live entries followed by those ahead, and have room
+/// for the others.
 pub(crate) fn fill_index(index: &mut DependIndex, entries: &Entries)
     requires indexed { IsIndexOf index.old (take (position_count index.old)
         (kept_entries entries.now)) }

@@ -2,7 +2,7 @@
 //! nothing.
 
 ghost use Rattle.std.specs.Prelude.{◌≡◌, ◌+◌, ◌<◌, ℕ, length, Ok};
-ghost use Rattle.rd_step.specs.Prelude.{and_then, closure_of};
+ghost use Rattle.rd_step.specs.Prelude.{and_then, closure_entries};
 ghost use Rattle.rd_journal.specs.Journal.{Journal, IsRun};
 ghost use Rattle.rd_journal.specs.Laws.{IsMovedLast, IsClosureLast, IsOneRun};
 ghost use Rattle.rd_journal.specs.State.{State, state_of, undo_at, back, forward, roll};
@@ -70,6 +70,6 @@ pub fn a_step_undone_alone_and_redone_is_the_last()
 /// changed, and the redone steps are the last ones, in their order.
 pub fn a_closure_rolled_back_and_redone_is_last()
     ensures { (i j k : Journal) (n : ℕ) → IsRun i → IsRun k → roll (state_of i) n ≡ Ok (state_of j)
-        → forward (state_of j) (length (closure_of i.live n)) ≡ Ok (state_of k)
+        → forward (state_of j) (length (closure_entries i.live n)) ≡ Ok (state_of k)
         → IsClosureLast n i k }
 {}

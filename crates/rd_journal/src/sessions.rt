@@ -25,10 +25,10 @@ ghost use Rattle.std.specs.Prelude.{◌≡◌, ◌⊎◌, ◌++◌, ◌+◌, ◌
 ghost use Rattle.rd_step.specs.Prelude.{model, room as world_room};
 ghost use Rattle.rd_journal.specs.Journal.{events, IsRunFrom};
 ghost use Rattle.rd_journal.specs.SessionFields.{opened_with, whole_journal, IsSession};
-ghost use Rattle.rd_journal.specs.Room.{ComesAfterRoom, LacksRoom};
+ghost use Rattle.rd_journal.specs.Room.{ComesAfterRoom, LacksRoomToSwitch};
 ghost use Rattle.rd_depend.specs.Index.{IsIndexOf};
 ghost use Rattle.rd_journal.specs.Entries.{ahead_entries, kept_entries};
-ghost use Rattle.rd_journal.specs.State.{apply, reply_to, MayLackMemory, undo_at, back, forward, roll, switch};
+ghost use Rattle.rd_journal.specs.State.{apply, call_result_of, MayLackMemory, undo_at, back, forward, roll, switch};
 ghost use Rattle.rd_journal.specs.Moves.{IsStepOf, IsMovedBack, IsMovedForward, IsRunWithoutLast, IsUndoneAlone, IsRunWithout, IsSwitched, IsRolledBack, IsRunWithoutClosure, undo_at_answer, roll_answer};
 
 use super::entries::Entries;
@@ -123,7 +123,7 @@ impl<const R: usize> Session<R> {
     pub fn apply(&mut self, event: Event) -> Result<(u64, Entry), Refusal>
         // A step is made in the world, and its event is put last in the state.
         ensures ok { OnOk result (apply (state self.old) event ≡ Ok (state self.new)) }
-        ensures reply { IfOk result (λ done. reply_to (state self.old) event ≡ done.1.reply) }
+        ensures reply { IfOk result (λ done. call_result_of (state self.old) event ≡ done.1.reply) }
         ensures step { IfOk result (λ done. IsStepOf event done (journal self.old)
             (journal self.new)) }
 
@@ -301,7 +301,7 @@ impl<const R: usize> Session<R> {
         ensures entries { OnOk result (IsSwitched n entries.now (journal self.old)
             (journal self.new)) }
         ensures err { IfErr result (λ refusal. (refusal ≡ Refusal.NoMemory)
-            × LacksRoom n (journal self.old) entries.now (capacity self.old) (room self.old)
+            × LacksRoomToSwitch n (journal self.old) entries.now (capacity self.old) (room self.old)
             (index self.old)) }
         ensures unchanged { OnErr result (KeepsItsSteps self.old self.new) }
         ensures succeeds { entries.now ≡ [] → IsOk result }

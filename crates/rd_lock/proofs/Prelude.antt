@@ -13,7 +13,7 @@ pub use Rattle.atomic_table.specs.Table.{Act, Allows, Final, Joins, Me, Seen, Sp
 pub use lib.ListN.{get_elem?}
 pub use native.Mathlib.Decide.{ℕ_discrete}
 pub use prog.Atomic.{either}
-pub use Rattle.rd_lock.specs.Histories.{Adds, Continues, NamesUpTo, with_positions, put_by, signed}
+pub use Rattle.rd_lock.specs.Histories.{AddsOwn, Continues, NamesUpTo, with_positions, put_by, signed}
 pub use Rattle.rd_lock.specs.Lists.{HasAllUpTo, AreComparable, IsIn, Pairwise, numbers_from, only}
 pub use Rattle.rd_lock.specs.Locks.{IsOut, IsPassOf, IsSamePass, IsWaiting, pass_view, next_seen, number, seen}
 pub use Rattle.rd_lock.specs.Opening.{IsClosedOver, IsEnded, IsEndedWith}

@@ -1,5 +1,5 @@
 -- The release, which gives the value back.
-use Rattle.rd_lock.proofs.Prelude.{Adds, Allows, Continues, LockState, Holds, StateFits, KnowsOpening, Lock, LockRule, Me, MemberFits, NamesUpTo, Out, PassView, Location, Releases, View, get_elem?, gives, with_put, home, homes_after, only, signed, single_slot, some, some-injective, ticket, view_of, ◌≡◌, ◌≢◌, ℕ, ◌+◌, ◌%◌, ◌^◌, ◌<◌, ◌≤◌, List, [], ◌∷◌, ◌++◌, sym, refl, ap, ◌∙◌, subst, arith, Some, length, Option}
+use Rattle.rd_lock.proofs.Prelude.{AddsOwn, Allows, Continues, LockState, Holds, StateFits, KnowsOpening, Lock, LockRule, Me, MemberFits, NamesUpTo, Out, PassView, Location, Releases, View, get_elem?, gives, with_put, home, homes_after, only, signed, single_slot, some, some-injective, ticket, view_of, ◌≡◌, ◌≢◌, ℕ, ◌+◌, ◌%◌, ◌^◌, ◌<◌, ◌≤◌, List, [], ◌∷◌, ◌++◌, sym, refl, ap, ◌∙◌, subst, arith, Some, length, Option}
 use Rattle.rd_lock.proofs.Lists.{one_of, every_append}
 use Rattle.rd_lock.proofs.Histories.{Continues-itself, continues_on, signed_all}
 use Rattle.rd_lock.proofs.Keeps.{allowed, moved, Owed, still}
@@ -51,7 +51,7 @@ module _ {T E O : Type 0} (lock : Lock T E O) where
 
   -- the release of a pass that holds, with a value that it may put back, is allowed
   pub release_allowed : (slots id : ℕ) (v : View E O) (m : Me (Option T) (View E O)) (x : T) (one : length v.members ≡ 1) (t : ℕ) (log : List (ℕ × E)) → KnowsOpening seats root (only v.members one) → origin x ≡ root
-      → v.stage ≡ Holds t log → Adds (only v.members one).pass log (history x) → m ≡ (v, (0, Some x) ∷ []) → Allows (LockRule lock) slots id m 0 (λ n. (n + 1) % 2 ^ 64) (Releases history origin m)
+      → v.stage ≡ Holds t log → AddsOwn (only v.members one).pass log (history x) → m ≡ (v, (0, Some x) ∷ []) → Allows (LockRule lock) slots id m 0 (λ n. (n + 1) % 2 ^ 64) (Releases history origin m)
   release_allowed slots id v m x one t log knows rooted stage adds is = let p = only v.members one in let held : Me (Option T) (View E O) = (view_of (p ∷ []) (Holds t log), (0, Some x) ∷ []) in
       subst (λ (y : Me (Option T) (View E O)). Allows (LockRule lock) slots id y 0 (λ n. (n + 1) % 2 ^ 64) (Releases history origin y)) (sym (is ∙ (λ i. (view_of (one_of v.members one i) (stage i), (0, Some x) ∷ []))))
       (allowed lock slots id held 0 (λ n. (n + 1) % 2 ^ 64) (Releases history origin held) (λ f views kept at. gives_back id p t log x adds.0 f views adds.1 (rooted ∙ sym knows.1) kept at))

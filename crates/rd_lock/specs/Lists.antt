@@ -30,7 +30,7 @@ IsIn n (x ∷ xs) = (x ≡ n) ⊎ IsIn n xs
 abbrev pub HasAllUpTo : ℕ → List ℕ → Type 0
 HasAllUpTo n xs = (k : ℕ) → 0 < k → k ≤ n → IsIn k xs
 
--- the list of the n numbers from k on
+-- the n numbers from k on, in order
 abbrev pub numbers_from : ℕ → ℕ → List ℕ
 numbers_from k zero = []
 numbers_from k (suc n) = k ∷ numbers_from (suc k) n

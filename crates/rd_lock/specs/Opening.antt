@@ -27,14 +27,15 @@ module _ {T E O : Type 0} (lock : Lock T E O) where
     -- with all passes as members, the words are equal
     pub all : HasAllUpTo lock.seats (pass_numbers ps) → served ≡ next
 
-  -- a table with these words and slots is in such a state: word 0 is `served`, word 1 is `next`,
-  -- and slot 0 is the value's
+  -- a table closed with these members, and left with these words and slots, is in such a state:
+  -- `served` is word 0, `next` is word 1, and `slot` is slot 0. If one of the three is missing,
+  -- nothing is stated
   abbrev pub IsEndedWith : List (PassView E O) → List ℕ → List (Option T) → Type 0
   IsEndedWith ps ws xs = (served next : ℕ) (slot : Option T) → get_elem? ws 0 ≡ some served → get_elem? ws 1 ≡ some next → get_elem? xs 0 ≡ some slot → IsEnded ps served next slot
 
 module _ {T E O : Type 0} {K : Ghosts T E O} where
-  -- the pass is one of a lock that was just opened with both words at `first`: it is out, has seen
-  -- no history, and knows the words
+  -- the pass is one of this lock, and as it was when the lock was opened with both words at
+  -- `first`: it is out, has seen no history, and knows the words as they began
   pub record IsNewPass (lock : TicketLock T E O) (first : ℕ) (pass : Pass T E O K) : Type 0 where
     pub is_pass : IsPassOf lock pass
     pub is_out : IsOut pass

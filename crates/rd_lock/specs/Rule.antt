@@ -1,5 +1,6 @@
 -- The invariant of the lock: what holds between any two steps of its words, of its slot, and of
--- what each seat knows.
+-- what each seat knows. Seats are numbered from 0, in the order of their views; passes are numbered
+-- from 1.
 use Rattle.std.specs.Prelude.{◌≡◌, ◌≢◌, ℕ, zero, suc, ◌^◌, ◌<◌, ◌≤◌, List, [], ◌∷◌, map, Option, Some, None}
 use mathlib.Core.Option.{some, none}
 use mathlib.Core.Option as maybe
@@ -94,27 +95,28 @@ module _ {E O : Type 0} where
   newcomers seats root first pass zero = []
   newcomers seats root first pass (suc n) = newcomer seats root first pass ∷ newcomers seats root first (suc pass) n
 
-  -- the view of the first seat of a lock that was just opened: all passes are its members, and it
+  -- the view of the first seat of such a lock: all passes, numbered from 1, are its members, and it
   -- is out
   abbrev pub opening_view : ℕ → O → ℕ → View E O
   opening_view seats root first = view_of (newcomers seats root first 1 seats) Out
 
 module _ {T E : Type 0} where
-  -- the slots that a seat at this stage has taken, as they are between two calls: a holder has
-  -- taken slot 0 and left it empty
+  -- the slots that a seat at this stage has taken, each with its content, as they are between two
+  -- calls: a holder has taken slot 0 and left it empty; any other seat has taken none
   abbrev pub in_hand : Stage E → List (ℕ × Option T)
   in_hand Out = []
   in_hand (Waits t) = []
   in_hand (Holds t found) = (0, None) ∷ []
 
 module _ {T : Type 0} where
-  -- the table's one slot: it has the value if that is at home, and is taken if the value is away
+  -- the table's one slot: at home with the value (`some (Some x)`), or taken (`none`) while the
+  -- value is away
   abbrev pub single_slot : Location T → List (maybe.Option (Option T))
   single_slot (home x) = some (Some x) ∷ []
   single_slot (away seat) = none ∷ []
 
 module _ {T E O : Type 0} (lock : Lock T E O) where
-  -- what holds of a pass that is a member of the seat of this number
+  -- what holds in this state of a pass that is a member of the seat of this number
   pub record MemberFits (f : LockState T E) (seat : ℕ) (p : PassView E O) : Type 0 where
     -- this is the pass's only seat
     pub owned : f.owner p.pass ≡ seat
@@ -129,15 +131,15 @@ module _ {T E O : Type 0} (lock : Lock T E O) where
     -- in a lock of one seat the pass has seen the present words, since nobody else moves them
     pub one_seat : lock.seats ≡ 1 → (p.next ≡ f.next) × (p.served ≡ f.served)
 
-  -- what holds of the seat of this number at this stage. A ticket with which it waits is drawn and
-  -- not finished; one by which it holds is the one served, and the seat has the value and found the
-  -- present history
+  -- what holds in this state of the seat of this number at this stage; nothing, if it is out. A
+  -- ticket with which it waits is drawn, not finished, and the seat's own. So is one by which it
+  -- holds, which is also the one served; the seat then has the value, and found the present history
   abbrev pub StageFits : LockState T E → ℕ → Stage E → Type 0
   StageFits f seat Out = Unit {0}
   StageFits f seat (Waits t) = (f.served ≤ t) × (t < f.next) × (f.taker t ≡ seat)
   StageFits f seat (Holds t found) = (t ≡ f.served) × (t < f.next) × (f.taker t ≡ seat) × (f.place ≡ away seat) × (found ≡ f.log)
 
-  -- what holds of the seat of this number with this view
+  -- what holds in this state of the seat of this number with this view
   pub record ViewFits (f : LockState T E) (seat : ℕ) (v : View E O) : Type 0 where
     -- each member is a pass of this seat
     pub members : AllByRecursion (MemberFits f seat) v.members
@@ -149,7 +151,7 @@ module _ {T E O : Type 0} (lock : Lock T E O) where
     pub alone : IsAloneAt v.stage v.members
 
   -- the value is where this says: at home with the present history and the lock's origin, or away
-  -- with a seat that holds by the ticket `served`
+  -- with a seat that holds by the ticket `served` and found the present history
   abbrev pub IsPlaced : LockState T E → List (View E O) → Location T → Type 0
   IsPlaced f views (home x) = (lock.history x ≡ f.log) × (lock.origin x ≡ lock.root)
   IsPlaced f views (away seat) = (v : View E O) × (get_elem? views seat ≡ some v) × (v.stage ≡ Holds f.served f.log)
@@ -161,15 +163,16 @@ module _ {T E O : Type 0} (lock : Lock T E O) where
     pub limit : f.next ≤ 2 ^ 63
     -- each entry names a pass from 1 to the number of seats
     pub names : NamesUpTo lock.seats f.log
-    -- what each seat knows agrees with the facts
+    -- what each seat knows agrees with the state
     pub each_view : (seat : ℕ) (v : View E O) → get_elem? views seat ≡ some v → ViewFits f seat v
     -- each pass is a member of its seat
     pub each_pass : (pass : ℕ) → 0 < pass → pass ≤ lock.seats → HasPass views (f.owner pass) pass
     -- each ticket from `served` to below `next` belongs to its seat, which waits or holds by it
     pub each_ticket : (t : ℕ) → f.served ≤ t → t < f.next → HasTicket views (f.taker t) t
-    -- the value is where the facts say: in the slot, or with the seat that holds
+    -- the value is where the state says: in the slot, or with the seat that holds
     pub is_placed : IsPlaced f views f.place
 
-  -- the invariant of the lock: some facts agree with its words, its slot and its seats
+  -- the invariant of the lock: there is a `LockState` that has the table's words and slot, and fits
+  -- the views of its seats
   abbrev pub LockRule : State (Option T) (View E O) → Type 0
   LockRule s = (f : LockState T E) × (s.words ≡ f.served ∷ f.next ∷ []) × (s.homes ≡ single_slot f.place) × StateFits f s.views

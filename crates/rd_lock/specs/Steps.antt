@@ -9,6 +9,10 @@
 -- 6     Releases      served  served := n + 1, seen := what it put, and it is out
 --
 -- Kinds 4 and 5 move the value, and 7 and 8 join and split seats: `src/tickets.rt`, `src/plays.rt`.
+--
+-- A relation takes the maker before the step (`m`), the value of the word before it (`n`) and the
+-- maker after it (`m'`). A maker is a seat: its view (`.0`), and the slots that it has taken, each
+-- with its content (`.1`). By `newest`, no member knew of a greater value than n.
 use Rattle.std.specs.Prelude.{◌≡◌, ◌≢◌, ℕ, ◌+◌, ◌^◌, ◌≤◌, max, List, [], ◌∷◌, map, Option, Some}
 use Rattle.atomic_table.specs.Table.{Me}
 use Rattle.rd_lock.specs.declared.views.PassView.{PassView}
@@ -25,7 +29,7 @@ module _ {E O : Type 0} where
   abbrev pub with_next_seen : ℕ → PassView E O → PassView E O
   with_next_seen n p = record p { next = n }
 
-  -- what the pass knows after it has seen n in the word `served`; `next` is never below that
+  -- what the pass knows after it has seen n in the word `served`, and so a `next` of at least n
   abbrev pub with_served_seen : ℕ → PassView E O → PassView E O
   with_served_seen n p = record p { next = max p.next n; served = n }
 
@@ -59,7 +63,8 @@ module _ {T E O : Type 0} where
     pub after : m' ≡ (after_next n m.0.stage m.0, m.1)
 
   -- a draw in `take`, which expects the ticket that the pass found before. If `next` had that value
-  -- n, the pass now waits with ticket n; if not, it has only seen n there
+  -- n, the pass now waits with ticket n, and has seen n + 1 in `next`; if not, it has only seen n
+  -- there
   pub record Draws (expected : ℕ) (m : Me (Option T) (View E O)) (n : ℕ) (m' : Me (Option T) (View E O)) : Type 0 where
     pub newest : IsNewestNext n m.0
     pub won : n ≡ expected → m' ≡ (after_next (n + 1) (Waits n) m.0, m.1)
@@ -80,8 +85,8 @@ module _ {T E O : Type 0} where
     IsFound x p = (origin x ≡ p.origin) × Continues p.pass p.seen (history x)
 
     -- a draw in `try_take`, which expects the ticket that the pass saw served. If `next` had that
-    -- value n, the pass now holds the value by ticket n; if not, which never happens in a lock of
-    -- one seat, it has only seen n there
+    -- value n, the pass now holds the value by ticket n, and has seen n + 1 in `next`; if not,
+    -- which never happens in a lock of one seat, it has only seen n there
     pub record Tries (expected : ℕ) (m : Me (Option T) (View E O)) (n : ℕ) (m' : Me (Option T) (View E O)) : Type 0 where
       pub newest : IsNewestNext n m.0
       pub won : n ≡ expected → (x : T) × AllByRecursion (IsFound x) m.0.members × (m' ≡ (after_next (n + 1) (Holds n (history x)) m.0, (0, Some x) ∷ m.1))
@@ -94,8 +99,9 @@ module _ {T E O : Type 0} where
       pub served : m.0.stage ≡ Waits n → (x : T) × AllByRecursion (IsFound x) m.0.members × (m' ≡ (after_served n (Holds n (history x)) m.0, (0, Some x) ∷ m.1))
       pub waits : m.0.stage ≢ Waits n → m' ≡ (after_served n m.0.stage m.0, m.1)
 
-    -- the release, which adds one to the word `served` and gives the value back: the seat, which
-    -- held, is now out, and its member has seen the value's history
+    -- the release, which adds one to the word `served` and gives the value back. The seat held, and
+    -- the history that it found continues what its member had seen. Now it is out, and its member
+    -- has seen the history of the value that it gave back
     pub record Releases (m : Me (Option T) (View E O)) (n : ℕ) (m' : Me (Option T) (View E O)) : Type 0 where
       pub newest : IsNewestServed n m.0
       pub found : (t : ℕ) × (log : List (ℕ × E)) × (m.0.stage ≡ Holds t log) × AllByRecursion (λ (p : PassView E O). Continues p.pass p.seen log) m.0.members

@@ -36,9 +36,10 @@ impl<T: Recorded> TicketLock<T> {
         TicketLock::open_at(alloc, value, seats, 0)
     }
 
-    /// Returns a lock over the value, and its passes, whose numbers are 1 to `seats`. Both words
-    /// begin at `first`, so `2^63 - first` tickets are left to draw. There must be at least one
-    /// seat, `first` must be at most 2^63, and the value's history must be empty.
+    /// Returns a lock over the value, and its passes, whose numbers are 1 to `seats`. The lock's two
+    /// words, `served` and `next`, both begin at `first`, so `2^63 - first` tickets are left to
+    /// draw. There must be at least one seat, `first` must be at most 2^63, and the value's history
+    /// must be empty.
     ///
     /// # Errors
     ///

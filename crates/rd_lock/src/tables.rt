@@ -13,9 +13,10 @@ use super::views::{Opened, Recorded};
 use atomic_table::{Closed, Table};
 use std::alloc::{AllocFailed, Global};
 
-/// Allocates a table with the value in its slot, and returns it with its first seat. The value's
-/// history must be empty, and `about` must be of this value, with both words at most 2^63. Fails
-/// only if memory is refused, and then returns the value.
+/// Allocates a table with the value in its slot and both words at `about.first`, and returns it
+/// with its first seat, which has all passes as members. The value's history must be empty, `about`
+/// must be of this value, and `about.first` at most 2^63. Fails only if memory is refused, and then
+/// returns the value.
 pub(crate) fn make_table<T: Recorded>(
     alloc: Global,
     value: T,

@@ -17,9 +17,9 @@ pub const TICKETS: u64 = 1 << 63;
 #[derive(Debug, Clone, Copy, PartialEq, Eq)]
 pub struct TicketsEnded;
 
-/// The error when a ticket is drawn and not finished, with the lock's two words, which then differ.
-/// From `try_take` they are the greatest values that the pass has seen; from `close`, neither is
-/// below what a given pass has seen.
+/// The error when a ticket is drawn and not finished, with the lock's two words, `served` below
+/// `next`. From `try_take` they are the greatest values that the pass has seen; from `close`,
+/// neither is below what a given pass has seen.
 #[derive(Debug, Clone, Copy, PartialEq, Eq)]
 pub struct Busy {
     /// The word `next`: the ticket that is drawn next.

@@ -1,5 +1,5 @@
 -- The answers to undos, redos and events, from the results of the calls.
-use Rattle.rd_marks.proofs.Prelude.{◌≡◌, ◌⊎◌, ℕ, inl, inr, sym, ap, ◌∙◌, subst, List, length, Option, Result, Ok, Err, OnOk, IfErr, Refusal, OpReply, Event, Session, state, Journal, State, MayLackMemory, state_of, apply, reply_to, Mark, BookState, with_session, Answered, answer_with, move_answer, IsEventAnswer, length-map, result_map, AnswersAs, step_counts, as_reply, Reply, Applied, IsErrAnd, arith}
+use Rattle.rd_marks.proofs.Prelude.{◌≡◌, ◌⊎◌, ℕ, inl, inr, sym, ap, ◌∙◌, subst, List, length, Option, Result, Ok, Err, OnOk, IfErr, Refusal, OpReply, Event, Session, state, Journal, State, MayLackMemory, state_of, apply, call_result_of, Mark, BookState, with_session, Answered, answer_with, move_answer, IsEventAnswer, length-map, result_map, AnswersAs, step_counts, as_reply, Reply, Applied, IsErrAnd, arith}
 use Rattle.rd_marks.specs.declared.replies.EventReply.{EventReply}
 use Rattle.rd_cell.specs.declared.refusal.Refusal.TheVariants as refusal
 
@@ -30,11 +30,11 @@ module _ (old new : Journal) (marks : List Mark) (e : Event) where
   before = record { session = state_of old; marks = marks }
 
   abbrev of_step : Result State Refusal → Answered
-  of_step r = answer_with before (λ s. Applied (length s.live) (reply_to (state_of old) e)) (with_session before) r
+  of_step r = answer_with before (λ s. Applied (length s.live) (call_result_of (state_of old) e)) (with_session before) r
 
   -- an event that made a step is answered as `IsEventAnswer` allows
   pub event_made : (after : List Mark) (n : ℕ) (reply : Option OpReply) → apply (state_of old) e ≡ Ok (state_of new) → n ≡ length new.live
-      → reply_to (state_of old) e ≡ reply → after ≡ marks
+      → call_result_of (state_of old) e ≡ reply → after ≡ marks
       → IsEventAnswer before e (record { answer = Ok (Applied n reply); state = record { session = state_of new; marks = after } })
   event_made after n reply made number its kept = grind (arith, made, number, its, kept, length-map)
 

@@ -1,6 +1,6 @@
 -- How each call keeps the fact that the events of `here` begin the session's track.
 use Rattle.rd_marks.proofs.Prelude.{◌≡◌, ℕ, zero, suc, ◌-◌, ◌≤◌, refl, ap, List, [], ◌∷◌, ◌++◌, length, take, drop, Ok, arith, take-append_seam, take-length, take-map, take-take, take-append-le, length-map, length-take, closure, items_where_false, Event, Entry, Begins, Session, Journal, ahead_entries, state, track, State, Node, Stretch, stretch_list, entries_at, IsWithin, AgreesFor, events, live_event, is_live, went_through, Result, Refusal, and_then, cases_lt, drop_all, append-nil}
-use Rattle.rd_journal.specs.Moves.{IsLengthened, IsUndoneAlone, IsRolledBack}
+use Rattle.rd_journal.specs.Moves.{IsAppendedToLive, IsUndoneAlone, IsRolledBack}
 use Rattle.rd_marks.proofs.Starting.{begins_events, begins_shorter, begins_trans, events_length, events_of_first, fewer_begin, entries_length}
 
 -- How many of the first live entries each call keeps
@@ -19,7 +19,7 @@ closure_leaves (suc n) (x ∷ xs) = ap (λ (ys : List Entry). x ∷ ys) (closure
 pub roll_leaves : (k n : ℕ) (old new : Journal) → n ≡ k - 1 → IsRolledBack k old new → take n new.live ≡ take n old.live
 roll_leaves k n old new its rolled = grind (arith, closure_leaves)
 
-pub added_leaves : (n : ℕ) (x : Entry) (old new : Journal) → n ≡ length old.live → IsLengthened x old new → take n new.live ≡ take n old.live
+pub added_leaves : (n : ℕ) (x : Entry) (old new : Journal) → n ≡ length old.live → IsAppendedToLive x old new → take n new.live ≡ take n old.live
 added_leaves n x old new all more = grind (arith, take-append_seam, take-length)
 
 -- A step that was undone or rolled back by its number was live

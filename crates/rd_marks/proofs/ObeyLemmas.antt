@@ -1,5 +1,5 @@
 -- No command changes the start, and a refused one changes nothing.
-use Rattle.rd_marks.proofs.Prelude.{◌≡◌, ℕ, sym, subst, List, [], ◌∷◌, ◌++◌, length, Some, None, Result, Ok, Err, OnErr, IfErr, ◌∙◌, arith, same_Some, MayRefuse, Refusal, Event, Session, State, apply, reply_to, undo_at, roll, back, forward, Command, BookState, MarkName, with_session, goto_mark, Answered, answer_with, IsEventAnswer, IsAsDefined, IsObeyed, AreObeyed, Reply, Applied, step_counts, as_event, ap, OnOk, AnswersAs, state, Journal, state_of}
+use Rattle.rd_marks.proofs.Prelude.{◌≡◌, ℕ, sym, subst, List, [], ◌∷◌, ◌++◌, length, Some, None, Result, Ok, Err, OnErr, IfErr, ◌∙◌, arith, same_Some, MayRefuse, Refusal, Event, Session, State, apply, call_result_of, undo_at, roll, back, forward, Command, BookState, MarkName, with_session, goto_mark, Answered, answer_with, IsEventAnswer, IsAsDefined, IsObeyed, AreObeyed, Reply, Applied, step_counts, as_event, ap, OnOk, AnswersAs, state, Journal, state_of}
 use Rattle.rd_marks.specs.declared.commands.Command.TheVariants as command
 use Rattle.rd_actor.specs.declared.actors.Act.TheVariants as act
 pub use Rattle.rd_journal.proofs.Calls.{back_start, forward_start}
@@ -43,7 +43,7 @@ equal_leaves_start : (b : BookState) (a c : Answered) → LeavesStart b c → a 
 equal_leaves_start b a c leaves h = subst (λ (x : Answered). LeavesStart b x) (sym h) leaves
 
 pub happened_leaves : (b : BookState) (e : Event) (a : Answered) → IsEventAnswer b e a → LeavesStart b a
-happened_leaves b e a k = grind (arith, equal_leaves_start, state_leaves b (λ s. Applied (length s.live) (reply_to b.session e)) (apply b.session e) (apply_start b.session e))
+happened_leaves b e a k = grind (arith, equal_leaves_start, state_leaves b (λ s. Applied (length s.live) (call_result_of b.session e)) (apply b.session e) (apply_start b.session e))
 
 made_leaves : (b : BookState) (reply : BookState → Reply) (r : Result BookState Refusal) (P : Type 0) (a : Answered)
     → ((t : BookState) → r ≡ Ok t → t.session.start ≡ b.session.start) → IsAsDefined b (answer_with b reply (λ c. c) r) P a → LeavesStart b a

@@ -146,7 +146,8 @@ module _ (w : World) (old new : List Stretch) (rule : AreNested old) (ms : List 
         lies = lies;
       }
 
-  -- the node `here` is within the new stretches, and its events still begin the track
+  -- `there` is where `here` is after the first n live entries were added: it is within the new
+  -- stretches, and its events still begin the track
   here_put : (there : Node) (n : ℕ) → (here.number ≤ n → there ≡ grown.node) → (n < here.number → there ≡ shifted grown.shift here)
       → IsWithin new there × Begins (events (entries_at new there)) steps
   here_put there n near far =

@@ -3,7 +3,7 @@ use Rattle.std.specs.Prelude.{◌≡◌, ◌⊎◌, ℕ, Some, Err}
 use Rattle.indexmap.specs.IndexMap.{spare}
 use Rattle.rd_step.specs.Prelude.{Refusal}
 use Rattle.rd_journal.specs.Journal.{events}
-use Rattle.rd_journal.specs.Sessions.{state, LacksRoomFor}
+use Rattle.rd_journal.specs.Sessions.{state, LacksRoomForEvents}
 use Rattle.rd_journal.specs.declared.sessions.Session.{Session}
 use Rattle.rd_marks.specs.declared.books.Book.{Book}
 use Rattle.rd_marks.specs.declared.commands.Command.{Command}
@@ -33,7 +33,7 @@ name_room b = spare b.bookmarks.names
 pub record LacksRoomToGo {R : ℕ} (b : Book R) (name : MarkName) : Type 0 where
   pub node : Node
   pub its : events_by_name (book_state b).marks name ≡ Some (events (entries_at (stretches_in b.bookmarks) node))
-  pub lacks : LacksRoomFor b.session (events (entries_at (stretches_in b.bookmarks) node)) ⊎ AreInPieces (stretches_in b.bookmarks) node
+  pub lacks : LacksRoomForEvents b.session (events (entries_at (stretches_in b.bookmarks) node)) ⊎ AreInPieces (stretches_in b.bookmarks) node
 
 -- if the command goes to a mark, the book may refuse it with this cause: with the refusal of
 -- `goto_mark`, or with NoMemory if it lacks room. Of other commands this states nothing

@@ -27,7 +27,7 @@ pub record BookState : Type 0 where
 abbrev pub with_session : BookState → State → BookState
 with_session b s = record { session = s; marks = b.marks }
 
--- the events of the mark of this name, or None if there is no such mark
+-- the events of the first mark of this name, or None if there is no such mark
 abbrev pub events_by_name : List Mark → MarkName → Option (List Event)
 events_by_name [] name = None
 events_by_name (m ∷ ms) name = if mark_name_eq name m.name then Some m.events else events_by_name ms name
@@ -41,8 +41,8 @@ mark b name =
     else if length b.marks == MOST_MARKS then Err refusal.TooManyMarks
     else Ok (record { session = b.session; marks = b.marks ++ record { name = name; events = b.session.live } ∷ [] })
 
--- the book after dropping the mark of this name, where the others keep their order; refused with
--- NoMark if there is none
+-- the book after dropping the first mark of this name, where the others keep their order; refused
+-- with NoMark if there is none
 abbrev pub drop_mark : BookState → MarkName → Result BookState Refusal
 drop_mark b name =
     if is_some (events_by_name b.marks name) then Ok (record { session = b.session; marks = remove_key (λ m. mark_name_eq name m.name) b.marks })

@@ -18,13 +18,14 @@ after_insertion j p = if p.number == 0 then p else if nat_le j p.stretch then re
 abbrev pub after_removal : ℕ → Node → Node
 after_removal j p = if nat_le j p.stretch then record { stretch = p.stretch - 1; number = p.number } else p
 
--- the node after the stretches were renumbered
+-- the node after the stretches were renumbered so: not at all (`Same`), because one was inserted
+-- with number i (`Up`), or because the i-th was removed (`Down`)
 abbrev pub shifted : Shift → Node → Node
 shifted Same p = p
 shifted (Up i) p = after_insertion i p
 shifted (Down i) p = after_removal i p
 
--- if the node has entries, its stretch's number has a successor below 2^64
+-- the node has no entries, or its stretch's number is below 2^64 - 1 and so can grow by 1
 abbrev pub CanShiftUp : Node → Type 0
 CanShiftUp p = 0 < p.number → suc p.stretch < 2 ^ 64
 
@@ -38,8 +39,9 @@ pub record KeepsEntries (old new : List Stretch) : Type 0 where
   pub stays : (p : Node) → IsWithin old p → Stays old new Same p
   pub needed : (nodes : List Node) → AreNeeded old nodes → AreNeeded new nodes
 
--- entries were added: `grown.node` has the entries of `at`, and then the given ones after the first
--- `at.number`. All old nodes are low; renumbered as `grown.shift` says, they have the entries that
+-- entries were added: `grown.node` is in the new stretches (`within`), and has the entries of `at`
+-- and then the given ones after the first `at.number` (`put`). The stretch numbers of all old nodes
+-- with entries can grow by 1 (`low`). Renumbered as `grown.shift` says, they have the entries that
 -- they had. Nodes that needed all entries need all now, together with the new node
 pub record IsGrown (old new : List Stretch) (at : Node) (entries : List Entry) (grown : Grown) : Type 0 where
   pub within : IsWithin new grown.node
@@ -49,9 +51,10 @@ pub record IsGrown (old new : List Stretch) (at : Node) (entries : List Entry) (
   pub needed : (nodes : List Node) → AreNeeded old nodes → AreNeeded new (map (shifted grown.shift) nodes ++ grown.node ∷ [])
 
 -- the i-th stretch was cut to the first n entries of its list, or removed; there are still i
--- stretches or more. All old nodes are low. Renumbered as `shift` says, they have the entries that
--- they had, except those with more than n entries of this stretch's list. If all entries after this
--- stretch were needed, and n of its own list, all entries from it on are needed now
+-- stretches or more. The stretch numbers of all old nodes with entries can grow by 1 (`low`).
+-- Renumbered as `shift` says, they have the entries that they had, except those with more than n
+-- entries of this stretch's list. If all entries after this stretch were needed, and n of its own
+-- list, all entries from it on are needed now
 pub record IsShrunk (old new : List Stretch) (i n : ℕ) (shift : Shift) : Type 0 where
   pub below : i ≤ length new
   pub low : (p : Node) → IsWithin old p → CanShiftUp p

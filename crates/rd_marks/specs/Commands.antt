@@ -4,7 +4,7 @@ use Rattle.std.specs.Prelude.{◌≡◌, ℕ, ◌<◌, ◌⊎◌, Bool, List, []
 use Rattle.rd_step.specs.Prelude.{Refusal, content_at, Ran, numbered, and_then, result_map}
 use Rattle.rd_actor.specs.declared.actors.Act.TheVariants as act
 use Rattle.rd_step.specs.declared.entries.Event.{Event}
-use Rattle.rd_journal.specs.State.{State, run_of, apply, reply_to, MayLackMemory, undo_at, roll, back, forward}
+use Rattle.rd_journal.specs.State.{State, run_of, apply, call_result_of, MayLackMemory, undo_at, roll, back, forward}
 use Rattle.rd_origin.specs.Origins.{origin_in}
 use Rattle.rd_origin.specs.Writers.{last_writer_in}
 use Rattle.rd_marks.specs.declared.commands.Command.{Command}
@@ -54,10 +54,11 @@ IsAsDefined b defined MayAskForMemory answered = (answered ≡ defined) ⊎ (May
 -- NoMemory only where the session may lack memory
 abbrev pub IsEventAnswer : BookState → Event → Answered → Type 0
 IsEventAnswer b e answered =
-    IsAsDefined b (answer_with b (λ s. reply.Applied (length s.live) (reply_to b.session e)) (with_session b) (apply b.session e)) (MayLackMemory b.session e) answered
+    IsAsDefined b (answer_with b (λ s. reply.Applied (length s.live) (call_result_of b.session e)) (with_session b) (apply b.session e)) (MayLackMemory b.session e) answered
 
 -- the command sets a mark and needs no memory: the mark is not refused, there is room for its name
--- (`room` counts the names that fit), and it needs no new entry. False for all other commands
+-- (`room` counts the further names that fit), and it needs no new entry. False for all other
+-- commands
 abbrev pub SetsMarkWithoutMemory : BookState → ℕ → Command → Type 0
 SetsMarkWithoutMemory b room (command.Mark name) = IsOk (mark b name) × (0 < room) × NeedsNoEntry b.marks b.session.live
 SetsMarkWithoutMemory b room _ = ⊥
@@ -96,7 +97,7 @@ IsObeyed b (command.GotoMark name) answered = IsAsDefined b (answer_with b (λ c
 IsObeyed b query answered = AnswersQuery b query answered.answer × (answered.state ≡ b)
 
 -- the commands, done one after another, may have these answers, one each, and leave the state
--- `last`
+-- `last`; false if there are more answers than commands, or fewer
 abbrev pub AreObeyed : BookState → List Command → List (Result Reply Refusal) → BookState → Type 0
 AreObeyed b [] [] last = last ≡ b
 AreObeyed b (c ∷ cs) (answer ∷ answers) last = (next : BookState) × IsObeyed b c (record { answer = answer; state = next }) × AreObeyed next cs answers last

@@ -1,6 +1,6 @@
 -- How the entries of the bookmarks are kept: by front coding. Each stretch stands for a list of
 -- entries: it keeps the number of entries that its list shares with the list of the stretch before
--- it, and the entries after these.
+-- it, and the entries after these. Stretches are counted from 0.
 use Rattle.std.specs.Prelude.{◌≡◌, ◌==◌, if◌then◌else◌, ℕ, zero, suc, ◌+◌, ◌<◌, ◌≤◌, max, List, [], ◌∷◌, ◌++◌, length, take}
 use Rattle.rd_step.specs.Prelude.{MOST_STEPS}
 use Rattle.rd_step.specs.Run.{events}
@@ -9,7 +9,8 @@ use Rattle.rd_step.specs.declared.entries.Entry.{Entry}
 use Rattle.rd_marks.specs.declared.stretches.Stretch.{Stretch}
 use Rattle.rd_marks.specs.declared.stretches.Node.{Node}
 
--- the list of a stretch: the entries that it shares with the list before it, then its own
+-- the list of a stretch: the entries that it shares with the list before it (`before`), then its
+-- own
 abbrev pub continued : List Entry → Stretch → List Entry
 continued before s = take s.shared before ++ s.entries.items
 
@@ -92,7 +93,7 @@ AreNeededFrom k ss nodes = (i : ℕ) → k ≤ i → i < length ss → length (s
 abbrev pub AreNeeded : List Stretch → List Node → Type 0
 AreNeeded ss nodes = AreNeededFrom 0 ss nodes
 
--- no stretch's list begins with the first n + 1 of these events
+-- no stretch's list begins with the first n + 1 of these events; this also holds if there are fewer
 abbrev pub IsDeepest : List Stretch → ℕ → List Event → Type 0
 IsDeepest ss n es = (i : ℕ) → i < length ss → AgreesFor ss i (suc n) es → ⊥
 
@@ -101,8 +102,9 @@ abbrev pub entry_count : List Stretch → ℕ
 entry_count [] = 0
 entry_count (s ∷ ss) = length s.entries.items + entry_count ss
 
--- the entries of a node lie in more than one stretch: the same entries up to a node (`at`) whose
--- last one is its stretch's own, where that stretch shares some of them
+-- the entries of a node lie in more than one stretch: a node `at` has the same entries, the last of
+-- them is its stretch's own (`own`), and its stretch shares the first of them with the list before
+-- it (`shares`)
 pub record AreInPieces (ss : List Stretch) (p : Node) : Type 0 where
   pub at : Node
   pub same : entries_at ss at ≡ entries_at ss p

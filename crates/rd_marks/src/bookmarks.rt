@@ -131,8 +131,9 @@ impl Bookmarks {
 
     /// Sets a bookmark of this name, which none may have, at the live steps, as the last in the
     /// list. There must be fewer than `MOST_MARKS` bookmarks. The bookmarks must be at runs from
-    /// the session's start, and the events of `here` must begin the session's track. It adds only
-    /// the entries that aren't kept yet, and asks for all memory before it adds the first.
+    /// the session's start, of at most `MOST_STEPS` steps each, and the events of `here` must begin
+    /// the session's track. It adds only the entries that aren't kept yet, and asks for all memory
+    /// before it adds the first.
     ///
     /// # Errors
     ///
@@ -189,9 +190,9 @@ impl Bookmarks {
         }
     }
 
-    /// Returns whether the events of two nodes of these bookmarks are causally equivalent. The
-    /// answer is right if they are those of runs from one start. The call skips the entries with
-    /// which both begin.
+    /// Returns whether the events of two nodes are causally equivalent. The stretches must have the
+    /// entries of both. The answer is right if they are those of runs from one start. The call
+    /// skips the entries with which both begin.
     ///
     /// # Errors
     ///

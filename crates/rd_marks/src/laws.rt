@@ -19,7 +19,8 @@ pub fn a_book_is_the_run_of_its_live_events<const R: usize>(book: &Book<R>)
     let _world = book.session().world();
 }
 
-/// The live events of a session, and then its undone ones, can run from its start.
+/// The live events of a session, and then its undone ones, can run from its start, and are at most
+/// `MOST_STEPS`.
 pub fn the_events_of_a_session_can_run<const R: usize>(session: &Session<R>)
     ensures { CanRun (state session.now).start
         ((state session.now).live ++ (state session.now).undone) }

@@ -32,6 +32,8 @@ none_passes {X} test (x ∷ xs) h =
     let both = some_behind (test x) (last_position test xs) h in
     (both.0, none_passes test xs both.1)
 
+-- if no later element passes, a list that has a last position is taken apart at its first element;
+-- b says whether that one passes
 apart_first : {X : Type 0} (test : X → Bool) (x : X) (xs : List X) (j : ℕ) (b : Bool) → test x ≡ b → last_position test xs ≡ None
     → one_further b None ≡ Some j → ApartAtLast test (x ∷ xs) j
 apart_first {X} test x xs j false is none h = cc

@@ -5,7 +5,8 @@ use Rattle.rd_step.specs.declared.entries.Entry.{Entry}
 use Rattle.rd_actor.specs.declared.actors.OpReply.TheVariants as op_reply
 use Rattle.rd_origin.specs.Origins.{argument}
 
--- the step at position k took the value that is the argument of the call at position c
+-- the step at position k took the value that is the argument of the call at position c, both
+-- counted from 1
 pub record IsHandedOver (entries : List Entry) (c k : ℕ) : Type 0 where
   pub call : Entry
   pub called : numbered entries c ≡ Some call

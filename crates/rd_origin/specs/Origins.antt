@@ -1,5 +1,5 @@
 -- Where a value that a step took came from (the table of control points is Morrison and Afek's,
--- 2013, in our profile).
+-- 2013, in our profile). Positions are counted from 1.
 use Rattle.std.specs.Option.{option_map_or}
 use Rattle.std.specs.Prelude.{ℕ, ◌-◌, ◌==◌, ◌&&◌, not, Bool, true, false, if◌then◌else◌, List, length, take, ok_or, option_and_then, Option, Some, None, Result, Ok, Err}
 use Rattle.rd_step.specs.Prelude.{Place, name_eq, place_eq, is_nothing, Refusal, Act, OpReply, and_then}
@@ -25,7 +25,7 @@ is_call act.Go = false
 is_call (act.Starve b) = false
 is_call _ = true
 
--- whether an access has a place, and it is this cell
+-- whether there is a place, and it is this cell of a segment or slot of the array
 abbrev pub is_at : Option Place → Place → Bool
 is_at touched cell = option_map_or (λ p. place_eq p cell) touched false
 
@@ -36,7 +36,8 @@ has_first_cell (Some (place.Whole s)) (place.Cell t i) = name_eq s t && (i == 0)
 has_first_cell _ _ = false
 
 -- whether a step from this control point put a value into the cell: by a CAS2 there that won (E8),
--- by a swap there (A2), or by making the segment whose cell 0 it is (E12)
+-- by a swap there (A2), or by making the segment whose cell 0 it is (E12). No step from another
+-- control point puts a value
 abbrev pub puts_from : Pc → Place → Entry → Bool
 puts_from E8 cell x = not (is_nothing x.wrote) && is_at x.place cell
 puts_from A2 cell x = is_at x.place cell
@@ -63,7 +64,8 @@ last_call entries put =
     option_and_then (λ j. option_and_then (λ x. last_position (begins_call x.event.actor) (take (j - 1) entries)) (numbered entries j)) put
 
 -- the origin of the value that the step at position k, counted from 1, took: the positions of its
--- call, its put and its take. `NoSuchStep` if there is no step at k; `NotATake` if it took no value
+-- call, its put and its take. `NoSuchStep`, with the number of steps, if there is no step at k;
+-- `NotATake` if it took no value
 abbrev pub origin_in : List Entry → ℕ → Result Origin Refusal
 origin_in entries k =
     and_then (ok_or (numbered entries k) (refusal.NoSuchStep (length entries))) (λ x.

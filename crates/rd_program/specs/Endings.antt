@@ -38,7 +38,8 @@ refusal_of (Script fault) = refused.Stopped fault
 refusal_of (Trace fault) = trace_refusal fault
 refusal_of (View fault) = view_refusal fault
 
--- the line on standard error for a refusal: the program's name, and then the refusal
+-- the line on standard error for a refusal: the program's name, a colon and a space, and then the
+-- line that answers with this refusal
 abbrev pub error_line : AnyRefusal → List ℕ
 error_line cause = codes "lcrqdb: " ++ answer_text (Err cause)
 

@@ -36,12 +36,14 @@ pub record RanToTrace (before : BookState) (traced : Bool) (d : Devices) (n : �
   pub kept : Journal
   -- what the writer had taken when the report was whole
   pub reported : Option (List ℕ)
+  -- the run as far as the report, at which neither device had failed
   pub ran : RanToEnd before after kept (record d { output = record d.output { after = reported; failed = false } }) n
+  -- what the writer got after the report
   pub trace : WritesTraceIfAsked traced after (record d.output { before = reported }) written
 
 -- what `run` and `load` did over a book in this state, by the result. Either a script of n lines
 -- ran to its end, and the trace was written whole if it was asked for; or the script's run stopped;
--- or it ran to its end, and the trace was not written whole
+-- or it ran to its end, and the trace was not written whole. There is no other fault
 abbrev pub PlaysOver : BookState → Bool → Devices → Result ℕ ProgramFault → Type 0
 PlaysOver before traced d (Ok n) = RanToTrace before traced d n (Ok tt)
 PlaysOver before traced d (Err (Script fault)) = (after : BookState) × (kept : Journal) × RunsScript before after kept d (Err fault)

@@ -18,8 +18,8 @@ use std::sync::Wait;
 use std::thread::Threads;
 
 /// Runs 1 to 64 scripts over a fresh world, each by a viewer in its own thread, and waits for all
-/// of them. Then writes for each viewer the answers to its lines, and last the number of recorded
-/// calls, which it returns. If a thread can't be started, its viewer gets the line
+/// of them. Then writes for each viewer a heading and the answers to its lines, and last the number
+/// of recorded calls, which it returns. If a thread can't be started, its viewer gets the line
 /// `refused 20 NoMemory` in place of answers. The writer must not have failed before.
 ///
 /// # Errors

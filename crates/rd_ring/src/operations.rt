@@ -33,20 +33,20 @@ impl<const R: usize> Segment<R> {
             Some(found) => found,
         };
         if let Some(answer) = operation.read_answer(found) {
-            return Ok(Done::at(place, found, answer, Wrote::Nothing));
+            return Ok(Done::of_operation(place, found, answer, Wrote::Nothing));
         }
         match (place, operation) {
             (Place::Head(_), Operation::Add) => match self.add_head() {
                 Err(refusal) => Err(refusal),
-                Ok(_) => Ok(Done::at(place, found, Answer::Found(found), Wrote::Place)),
+                Ok(_) => Ok(Done::of_operation(place, found, Answer::Found(found), Wrote::Place)),
             },
             (Place::Tail(_), Operation::Add) => match self.add_tail() {
                 Err(refusal) => Err(refusal),
-                Ok(_) => Ok(Done::at(place, found, Answer::Found(found), Wrote::Place)),
+                Ok(_) => Ok(Done::of_operation(place, found, Answer::Found(found), Wrote::Place)),
             },
             (Place::Tail(_), Operation::Close) => {
                 let closed = self.close();
-                Ok(Done::at(place, found, Answer::WasClosed(closed), Wrote::Place))
+                Ok(Done::of_operation(place, found, Answer::WasClosed(closed), Wrote::Place))
             }
             (Place::Tail(_), Operation::CasTail { old, new }) => {
                 let won = self.cas_tail(old, new);
@@ -64,9 +64,9 @@ impl<const R: usize> Segment<R> {
         }
     }
 
-    /// Puts an old content back at one of the segment's places. This undoes each operation that
-    /// writes there. The place must be there, the content must be of its kind, and a counter in it
-    /// at most 2^62.
+    /// Puts an old content back at a place of this segment, whichever segment the place names. This
+    /// undoes each operation that writes there. The place must be there, the content must be of its
+    /// kind, and a counter in it at most 2^62.
     pub fn restore(&mut self, place: Place, content: Content)
         requires there { IsTrue (is_some (operand (segment_contents self.old) place)) }
         requires kind { IsTrue (can_hold place content) }

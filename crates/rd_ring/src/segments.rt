@@ -1,7 +1,7 @@
-//! The segment and its operations.
+//! The segment and its operations. `R` must be at most 64 wherever a segment or its cells are made.
 
 ghost use Rattle.std.specs.Prelude.{◌≡◌, ℕ, ◌<◌, ◌≤◌, ◌↔◌, true, false, Some, None, Err, IsSome, IsTrue, IfOk, IfErr, OnErr, option_map, slice_get, length};
-ghost use Rattle.rd_ring.specs.Prelude.{COUNTER_END, MOST_CELLS, SegName, Content, Add, Close, CasTail, CasNext, Cas2, root, fresh_segment, segment_holding, new_cell, operand, cas_answer, cas_wrote, wrote_cell};
+ghost use Rattle.rd_ring.specs.Prelude.{COUNTER_END, MOST_CELLS, SegName, Content, Add, Close, CasTail, CasNext, Cas2, root, fresh_segment, segment_holding, fresh_cell, operand, cas_answer, cas_wrote, wrote_cell};
 ghost use Rattle.rd_cell.specs.declared.operations.Answer.TheVariants as Answer;
 ghost use Rattle.rd_cell.specs.declared.places.Wrote.TheVariants as Wrote;
 
@@ -9,7 +9,7 @@ use super::parts::SegmentParts;
 use rd_cell::limits::COUNTER_END;
 use rd_cell::{Cell, Content, Place, Refusal, SegName};
 
-/// A segment: a ring of `R` cells, 1 to 64.
+/// A segment: a ring of `R` cells, at most 64.
 #[derive(Debug, Drop)]
 pub struct Segment<const R: usize> {
     head: u64,
@@ -24,7 +24,7 @@ pub struct Segment<const R: usize> {
 }
 
 impl<const R: usize> Segment<R> {
-    ghost use Rattle.rd_ring.specs.Segments.{segment_contents, parts_contents, counters_fit, head_count, tail_count, OperatesAt, RefusesAt, RestoresAt};
+    ghost use Rattle.rd_ring.specs.Segments.{segment_contents, parts_contents, counters_fit, head_counter, tail_counter, OperatesAt, RefusesAt, RestoresAt};
 
     /// Returns a fresh segment: both counters are 0, it is open, no segment follows, and each cell
     /// is safe and empty, with its own number as its index.
@@ -165,7 +165,7 @@ impl<const R: usize> Segment<R> {
         ensures ok { IfOk result (λ n. OperatesAt Place.Head Add (Content.Number n)
             (Answer.Found (Content.Number n)) Wrote.Place self.old self.new) }
         ensures err { IfErr result (λ e. RefusesAt Place.Head Add self.old e) }
-        ensures end { (result ≡ Err Refusal.CounterEnd) ↔ (head_count self.old ≡ COUNTER_END) }
+        ensures end { (result ≡ Err Refusal.CounterEnd) ↔ (head_counter self.old ≡ COUNTER_END) }
         ensures unchanged { OnErr result (self.new ≡ self.old) }
     {
         if self.head == COUNTER_END {
@@ -185,7 +185,7 @@ impl<const R: usize> Segment<R> {
         ensures ok { IfOk result (λ old. OperatesAt Place.Tail Add (Content.Tail old.0 old.1)
             (Answer.Found (Content.Tail old.0 old.1)) Wrote.Place self.old self.new) }
         ensures err { IfErr result (λ e. RefusesAt Place.Tail Add self.old e) }
-        ensures end { (result ≡ Err Refusal.CounterEnd) ↔ (tail_count self.old ≡ COUNTER_END) }
+        ensures end { (result ≡ Err Refusal.CounterEnd) ↔ (tail_counter self.old ≡ COUNTER_END) }
         ensures unchanged { OnErr result (self.new ≡ self.old) }
     {
         if self.tail == COUNTER_END {
@@ -198,7 +198,7 @@ impl<const R: usize> Segment<R> {
 
     /// Sets the closed bit (test-and-set), and returns whether it was set before.
     pub fn close(&mut self) -> bool
-        ensures { OperatesAt Place.Tail Close (Content.Tail result (tail_count self.old))
+        ensures { OperatesAt Place.Tail Close (Content.Tail result (tail_counter self.old))
             (Answer.WasClosed result) Wrote.Place self.old self.new }
     {
         let old = self.closed;
@@ -310,7 +310,7 @@ impl<const R: usize> Segment<R> {
 /// Returns the cells of a fresh segment.
 fn fresh_cells<const R: usize>() -> [Cell; R]
     requires { R ≤ MOST_CELLS }
-    ensures { (u : ℕ) → u < R → slice_get result u ≡ Some (new_cell u None) }
+    ensures { (u : ℕ) → u < R → slice_get result u ≡ Some (fresh_cell u) }
 {
     let mut cells = [Cell::fresh(0); R];
     for i in 0..R {
@@ -322,7 +322,7 @@ fn fresh_cells<const R: usize>() -> [Cell; R]
 /// Whether these are the cells of a fresh segment.
 fn are_fresh_cells(cells: &[Cell]) -> bool
     ensures { IsTrue result ↔ ((u : ℕ) → u < length cells.now
-        → slice_get cells.now u ≡ Some (new_cell u None)) }
+        → slice_get cells.now u ≡ Some (fresh_cell u)) }
 {
     for i in 0..cells.len() {
         if cells[i] != Cell::fresh(i as u64) {

@@ -46,6 +46,6 @@ name_from_parts word parts (Some s) cut is = join_of_parts 46 word (decimal s.ma
 pub no_name_from_parts : (word : List ℕ) (parts : List (List ℕ)) (r : Option SegName) → parts ≡ slice_split (λ byte. byte == 46) word → IfNone r ((s : SegName) → IsSegmentInRange s → parts ≢ decimal s.maker ∷ decimal s.n ∷ []) → IfNone r ((s : SegName) → IsSegmentInRange s → word ≢ segment_name_words s)
 no_name_from_parts word parts r cut is = grind (arith, name_parts)
 
--- a word of more than four parts spells none
+-- a word of more than four parts, which is more than `parts_of` returns, spells no segment's name
 pub no_name_of_many : (word : List ℕ) → 4 < length (slice_split (λ byte. byte == 46) word) → (s : SegName) → IsSegmentInRange s → word ≢ segment_name_words s
 no_name_of_many word many s small e = absurd (omega (arith, many, ap length (ap (slice_split (λ byte. byte == 46)) e ∙ name_parts s small)))

@@ -13,7 +13,7 @@ pub use Rattle.rd_marks.proofs.ObeyLemmas.{event_obeyed, one_more_obeyed}
 pub use Rattle.rd_marks.specs.declared.books.Book.{Book}
 pub use Rattle.rd_marks.specs.declared.commands.Command.{Command}
 pub use Rattle.rd_marks.specs.declared.replies.Reply.{Reply}
-pub use Rattle.rd_script.specs.Answers.{AnswersSaid, AreObeyedLines, commands_of, line_answer, line_answers, report_of}
+pub use Rattle.rd_script.specs.Answers.{AnswersParsedLine, AreObeyedLines, commands_of, line_answer, line_answers, report_of}
 pub use Rattle.rd_script.specs.Contents.{segment_name_words}
 pub use Rattle.rd_script.specs.Device.{GivesByte}
 pub use Rattle.rd_script.specs.Grammar.{AreArgumentsInRange, Argument, Byte, Choice, IsArgumentInRange, IsSegmentInRange, Kind, Long, Name, Segment, argument_words, arguments_of, keyword_of, keyword_text, kind_of, kind_text, names_after, place_arguments, word_of}

@@ -1,5 +1,5 @@
 -- A script that runs: the bytes that were given so far, their lines and their report.
-use Rattle.rd_script.proofs.Prelude.{◌≡◌, ◌≢◌, ◌⊎◌, ℕ, suc, map, ◌+◌, ◌-◌, ◌^◌, ◌≤◌, Bool, true, false, List, [], ◌∷◌, ◌++◌, length, Option, refl, sym, ◌∙◌, ap, arith, inl, inr, append_assoc, length-append, Result, Ok, Err, flat_map-append, length-map, session_of, one_more_obeyed, Unread, map-append, book_state, Command, LineFault, ParsedLine, Says, ne_eqb, append-nil, nil_from_length, Consumes, Appends, IsAtEnd, onto_first, lines_of, ended_lines_of, IsOneLine, ReadsNext, ScriptFault, Read, Write, AnswersSaid, AreObeyedLines, commands_of, line_answer, line_answers, report_of, Devices, Refusal, journal, AreObeyed, Book, Reply, BookState, LineAnswer, answer_text, Line, RanToEnd, RunsScript, StoppedAtRead, WritesAnswer, Consumes-nil, Consumes-trans, Appends-nil, Appends-trans}
+use Rattle.rd_script.proofs.Prelude.{◌≡◌, ◌≢◌, ◌⊎◌, ℕ, suc, map, ◌+◌, ◌-◌, ◌^◌, ◌≤◌, Bool, true, false, List, [], ◌∷◌, ◌++◌, length, Option, refl, sym, ◌∙◌, ap, arith, inl, inr, append_assoc, length-append, Result, Ok, Err, flat_map-append, length-map, session_of, one_more_obeyed, Unread, map-append, book_state, Command, LineFault, ParsedLine, Says, ne_eqb, append-nil, nil_from_length, Consumes, Appends, IsAtEnd, onto_first, lines_of, ended_lines_of, IsOneLine, ReadsNext, ScriptFault, Read, Write, AnswersParsedLine, AreObeyedLines, commands_of, line_answer, line_answers, report_of, Devices, Refusal, journal, AreObeyed, Book, Reply, BookState, LineAnswer, answer_text, Line, RanToEnd, RunsScript, StoppedAtRead, WritesAnswer, Consumes-nil, Consumes-trans, Appends-nil, Appends-trans}
 use Rattle.std.proofs.lemmas.Slice.Zip.{all_zipped_more}
 use Rattle.rd_marks.specs.Headline.{Headline}
 use Rattle.rd_marks.proofs.Headlines.{book_runs}
@@ -68,7 +68,7 @@ module _ {R : ℕ} (before : BookState) (lines : List (List ℕ)) (answers : Lis
   headed : (cs : List Command) (given : List (Result Reply Refusal)) → AreObeyed before cs given (book_state after) → Headline before cs given (book_state after) (journal (session_of after))
   headed cs given answered = record { answered = answered; start = start ∙ h.headline.start; is_run = book_runs after }
 
-  one_more_line : (said : ParsedLine) → Says line said → AnswersSaid (book_state book) said answer (book_state after)
+  one_more_line : (said : ParsedLine) → Says line said → AnswersParsedLine (book_state book) said answer (book_state after)
       → AreObeyedLines before (lines ++ line ∷ []) (answers ++ answer ∷ []) (book_state after) (journal (session_of after))
   one_more_line (Err fault) says is = record {
     said = h.said ++ Err fault ∷ [];
@@ -170,7 +170,7 @@ module _ {R : ℕ} (before : BookState) (book : Book R) (d : Devices) (n : ℕ) 
   stopped_endless most = stopped_in_line d.input.after d.input.failed [] tt (Consumes-nil _) (inr (omega (arith, g.enough, length-append g.given [])))
 
   -- one more line was read and done
-  module _ (line : List ℕ) (said : ParsedLine) (answer : LineAnswer) (says : Says line said) (after : Book R) (is : AnswersSaid (book_state book) said answer (book_state after)) (start : (book_state after).session.start ≡ (book_state book).session.start) where
+  module _ (line : List ℕ) (said : ParsedLine) (answer : LineAnswer) (says : Says line said) (after : Book R) (is : AnswersParsedLine (book_state book) said answer (book_state after)) (start : (book_state after).session.start ≡ (book_state book).session.start) where
     more : AreObeyedLines before (lines_of g.given ++ line ∷ []) (g.answers ++ answer ∷ []) (book_state after) (journal (session_of after))
     more = one_more_line before (lines_of g.given) g.answers book after g.obeyed start line answer said says is
 

@@ -1,4 +1,5 @@
--- The words of an actor in a reply.
+-- The words of an actor in a reply. Each word of its record stands after a space and its name; a
+-- bit is 0 or 1.
 use Rattle.std.specs.Prelude.{ℕ, List, ◌++◌, codes, Option, Some, None}
 use Rattle.rd_step.specs.Prelude.{Actor}
 use Rattle.rd_actor.specs.declared.actors.Op.{Op}
@@ -20,8 +21,8 @@ abbrev pub point_and_call_words : Actor → List ℕ
 point_and_call_words a = codes "actor " ++ label a.pc ++ codes " " ++ op_words a.op
 
 -- the words of the segments in an actor's record: crq, new and next
-abbrev pub segment_words : Actor → List ℕ
-segment_words a = codes " crq " ++ segment_name_words a.crq ++ codes " new " ++ segment_name_words a.new ++ codes " next " ++ segment_name_words a.next
+abbrev pub crq_new_and_next_words : Actor → List ℕ
+crq_new_and_next_words a = codes " crq " ++ segment_name_words a.crq ++ codes " new " ++ segment_name_words a.new ++ codes " next " ++ segment_name_words a.next
 
 -- the words of the counters in an actor's record, t and h, and of its closed bit
 abbrev pub counter_words : Actor → List ℕ
@@ -33,6 +34,6 @@ cell_read_and_pass_words a =
     codes " val " ++ value_words a.val ++ codes " safe" ++ spaced_number (bit_number a.safe) ++ codes " idx" ++ spaced_number a.idx
     ++ codes " pass" ++ spaced_number a.pass
 
--- all words of an actor
+-- all words of the reply that shows an actor
 abbrev pub actor_words : Actor → List ℕ
-actor_words a = point_and_call_words a ++ segment_words a ++ counter_words a ++ cell_read_and_pass_words a
+actor_words a = point_and_call_words a ++ crq_new_and_next_words a ++ counter_words a ++ cell_read_and_pass_words a

@@ -1,5 +1,4 @@
 -- The answer to a line: the book's answer if it spells a command, or the refusal of its fault.
-use Rattle.std.specs.Result.{result_map_both}
 use Rattle.std.specs.Prelude.{◌≡◌, ℕ, List, [], ◌∷◌, map, flat_map, Result, Ok, Err}
 use Rattle.std.specs.List.{AllZip}
 use Rattle.rd_step.specs.Prelude.{Refusal}
@@ -14,15 +13,17 @@ use Rattle.rd_script.specs.Lines.{ParsedLine}
 use Rattle.rd_script.specs.Spelling.{Says}
 use Rattle.rd_script.specs.Replies.{LineAnswer, answer_text}
 
--- the answer to a line that spells a command, from the book's answer to that command
+-- the answer to a line that spells a command, from the book's answer to that command: the same
+-- reply, or the refusal as an `AnyRefusal`
 abbrev pub line_answer : Result Reply Refusal → LineAnswer
-line_answer answer = result_map_both (λ reply. reply) Refused answer
+line_answer (Ok reply) = Ok reply
+line_answer (Err refusal) = Err (Refused refusal)
 
--- a line that spells this command, or has this fault, may be answered so and leave this state; a
--- fault leaves the state as it was
-abbrev pub AnswersSaid : BookState → ParsedLine → LineAnswer → BookState → Type 0
-AnswersSaid s (Err fault) answer after = (answer ≡ Err (Unread fault)) × (after ≡ s)
-AnswersSaid s (Ok command) answer after =
+-- in the state `s`, a line that spells this command, or has this fault, may get this answer and
+-- leave the state `after`; a fault gets its refusal, and leaves the state as it was
+abbrev pub AnswersParsedLine : BookState → ParsedLine → LineAnswer → BookState → Type 0
+AnswersParsedLine s (Err fault) answer after = (answer ≡ Err (Unread fault)) × (after ≡ s)
+AnswersParsedLine s (Ok command) answer after =
     (given : Result Reply Refusal) × IsObeyed s command (record { answer = given; state = after }) × (answer ≡ line_answer given)
 
 -- the commands among what lines spell, in order
@@ -32,7 +33,8 @@ commands_of (Ok command ∷ said) = command ∷ commands_of said
 commands_of (Err fault ∷ said) = commands_of said
 
 -- the answers to lines, in order: a fault gets its refusal, and a command the next of these
--- answers. `AreObeyed` provides one answer for each command
+-- answers. If they run out, a command gets none; any left over are dropped. `AreObeyed` provides
+-- one answer for each command
 abbrev pub line_answers : List ParsedLine → List LineAnswer → List LineAnswer
 line_answers [] answers = []
 line_answers (Err fault ∷ said) answers = Err (Unread fault) ∷ line_answers said answers
@@ -53,4 +55,5 @@ pub record AreObeyedLines (before : BookState) (lines : List (List ℕ)) (answer
   -- the book's answers to the commands
   pub given : List (Result Reply Refusal)
   pub headline : Headline before (commands_of said) given after kept
+  -- each line has its answer: the refusal of its fault, or the book's answer to its command
   pub each : answers ≡ line_answers said (map line_answer given)

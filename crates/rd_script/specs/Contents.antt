@@ -38,7 +38,7 @@ slot_words slot.Empty = codes "empty"
 slot_words slot.Top = codes "top"
 slot_words (slot.Value x) = codes "value" ++ spaced_number x
 
--- the words of the content of a place
+-- the words of the content of a place; `exists` for the whole of a segment
 abbrev pub content_words : Content → List ℕ
 content_words (content.Name s) = segment_name_words s
 content_words (content.Number n) = decimal n

@@ -8,14 +8,14 @@ use Rattle.rd_marks.specs.declared.commands.Command.TheVariants.{Enq, Deq, Array
 use Rattle.rd_script.specs.Spelling.{spelling}
 
 -- the command that makes this actor do this act
-abbrev pub command_of : ℕ → Act → Command
-command_of actor (act.Enq x) = Enq actor x
-command_of actor act.Deq = Deq actor
-command_of actor (act.AEnq x) = ArrayEnq actor x
-command_of actor act.ADeq = ArrayDeq actor
-command_of actor act.Go = Go actor
-command_of actor (act.Starve choice) = Starve actor choice
+abbrev pub command_of_act : ℕ → Act → Command
+command_of_act actor (act.Enq x) = Enq actor x
+command_of_act actor act.Deq = Deq actor
+command_of_act actor (act.AEnq x) = ArrayEnq actor x
+command_of_act actor act.ADeq = ArrayDeq actor
+command_of_act actor act.Go = Go actor
+command_of_act actor (act.Starve choice) = Starve actor choice
 
 -- the words of an event: the line that makes it happen, without a line feed
 abbrev pub event_words : Event → List ℕ
-event_words e = spelling (command_of e.actor e.act)
+event_words e = spelling (command_of_act e.actor e.act)

@@ -1,6 +1,7 @@
 -- The grammar of lines: the keyword of each command and the arguments after it, each of them one
 -- word.
 use Rattle.std.specs.Prelude.{◌≡◌, ℕ, ◌<◌, ◌^◌, Bool, true, List, [], ◌∷◌, codes, map}
+use Rattle.std.specs.List.{AllByRecursion}
 use Rattle.std.specs.Fmt.{decimal}
 use Rattle.rd_step.specs.Prelude.{SegName, Place}
 use Rattle.rd_marks.specs.NameBytes.{is_mark_name}
@@ -73,8 +74,9 @@ kind_of place.ArrHead = kind.ArrHead
 kind_of place.ArrTail = kind.ArrTail
 kind_of (place.ArrCell i) = kind.ArrCell
 
--- an argument of a command: the number of an actor or cell (`Byte`), any other number (`Long`), a
--- segment, a choice, the bytes of a bookmark's name, or the kind of a place
+-- an argument of a command: the number of an actor, a cell or a slot of the array (`Byte`), any
+-- other number (`Long`), a segment, a choice (whether an enqueue starves), the bytes of a
+-- bookmark's name, or the kind of a place
 pub data Argument : Type 0 where
   Byte : ℕ → Argument
   Long : ℕ → Argument
@@ -92,7 +94,8 @@ word_of (Choice choice) = yes_or_no choice
 word_of (Name name) = name
 word_of (Kind k) = kind_text k
 
--- the arguments that follow the kind of a place
+-- the arguments that follow the kind of a place: its segment, and the number of its cell or slot,
+-- if it has them
 abbrev pub place_arguments : Place → List Argument
 place_arguments (place.Head s) = Segment s ∷ []
 place_arguments (place.Tail s) = Segment s ∷ []
@@ -152,8 +155,9 @@ argument_words arguments = map word_of arguments
 abbrev pub IsSegmentInRange : SegName → Type 0
 IsSegmentInRange s = (s.maker < 256) × (s.n < 2 ^ 32)
 
--- the argument is in its range: the number of an actor or cell is from 0 to 255, any other number
--- from 0 to 2^64 - 1, and the bytes of a name are ones that a bookmark can have
+-- the argument is in its range: the number of an actor, a cell or a slot is from 0 to 255, any
+-- other number from 0 to 2^64 - 1, the numbers in a segment's name are in theirs, and the bytes of
+-- a name are ones that a bookmark can have. Choices and kinds always are
 abbrev pub IsArgumentInRange : Argument → Type 0
 IsArgumentInRange (Byte n) = n < 256
 IsArgumentInRange (Long n) = n < 2 ^ 64
@@ -163,8 +167,7 @@ IsArgumentInRange _ = Unit {0}
 
 -- each argument is in its range
 abbrev pub AreArgumentsInRange : List Argument → Type 0
-AreArgumentsInRange [] = Unit {0}
-AreArgumentsInRange (argument ∷ arguments) = IsArgumentInRange argument × AreArgumentsInRange arguments
+AreArgumentsInRange arguments = AllByRecursion IsArgumentInRange arguments
 
 -- the number of bookmarks' names that follow this keyword in a line
 abbrev pub names_after : Keyword → ℕ

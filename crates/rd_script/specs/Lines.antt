@@ -15,21 +15,21 @@ use Rattle.rd_script.specs.Spelling.{most_line_bytes}
 abbrev pub ParsedLine : Type 0
 ParsedLine = Result Command LineFault
 
--- the lines of a text, without their line feeds; the last one needs no line feed, unless it is
--- empty
+-- the lines of a text, without their line feeds: each line feed ends a line, and the bytes that no
+-- line feed follows, if there are any, are the last line
 abbrev pub lines_of : List ℕ → List (List ℕ)
 lines_of [] = []
 lines_of (byte ∷ bytes) = if byte == 10 then [] ∷ lines_of bytes else onto_first byte (lines_of bytes)
 
 -- the lines with this byte added in front of the first one; if there is no line, still none
-abbrev pub ended_with_first_byte : ℕ → List (List ℕ) → List (List ℕ)
-ended_with_first_byte byte [] = []
-ended_with_first_byte byte (line ∷ lines) = (byte ∷ line) ∷ lines
+abbrev pub onto_first_if_any : ℕ → List (List ℕ) → List (List ℕ)
+onto_first_if_any byte [] = []
+onto_first_if_any byte (line ∷ lines) = (byte ∷ line) ∷ lines
 
 -- the lines of a text that a line feed ends, without their line feeds
 abbrev pub ended_lines_of : List ℕ → List (List ℕ)
 ended_lines_of [] = []
-ended_lines_of (byte ∷ bytes) = if byte == 10 then [] ∷ ended_lines_of bytes else ended_with_first_byte byte (ended_lines_of bytes)
+ended_lines_of (byte ∷ bytes) = if byte == 10 then [] ∷ ended_lines_of bytes else onto_first_if_any byte (ended_lines_of bytes)
 
 -- no byte of the text is a line feed
 abbrev pub IsOneLine : List ℕ → Type 0
@@ -55,8 +55,8 @@ pub record ReadsLast (old new : Option (List ℕ)) (line : Line) : Type 0 where
   pub some : read.text ≢ []
   pub ended : IsAtEnd new
 
--- the source gave a beginning of a line (`text`). Then it failed, or `text` has at least 2^64 - 1
--- bytes
+-- the source gave a beginning of a line (`text`). Then it failed (`failed`), or `text` has at least
+-- 2^64 - 1 bytes
 pub record ReadsPart (old new : Option (List ℕ)) (failed : Bool) : Type 0 where
   -- the bytes that the source gave
   pub text : List ℕ
@@ -64,8 +64,9 @@ pub record ReadsPart (old new : Option (List ℕ)) (failed : Bool) : Type 0 wher
   pub took : Consumes old new text
   pub cause : (failed ≡ true) ⊎ (2 ^ 64 ≤ length text + 1)
 
--- what the reading of the next line did, by its result: `Ended` by a line feed, the `Last` line
--- without one, the `End` of the text, or the fault of a source
+-- what the reading of the next line did to the source's bytes (`old`, `new`) and the buffer `line`,
+-- by its result: `Ended` by a line feed, the `Last` line without one, the `End` of the text, or
+-- `Read`, where `failed` says whether the source has failed; false for `Write`
 abbrev pub ReadsNext : Option (List ℕ) → Option (List ℕ) → Bool → Line → Result Reading ScriptFault → Type 0
 ReadsNext old new failed line (Ok Ended) = ReadsLine old new line (10 ∷ [])
 ReadsNext old new failed line (Ok Last) = ReadsLast old new line

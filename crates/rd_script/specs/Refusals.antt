@@ -35,7 +35,7 @@ refusal_name refusal.NoSuchPlace = codes "19 NoSuchPlace"
 refusal_name refusal.NoMemory = codes "20 NoMemory"
 
 -- the words after a refusal's name, with a space in front: the number of live steps, or a step's
--- number, if the refusal has one
+-- number, if the refusal has one; otherwise nothing
 abbrev pub refusal_data : Refusal → List ℕ
 refusal_data (refusal.NothingToUndo live) = spaced_number live
 refusal_data (refusal.NoSuchStep live) = spaced_number live
@@ -47,15 +47,15 @@ abbrev pub refusal_words : Refusal → List ℕ
 refusal_words cause = refusal_name cause ++ refusal_data cause
 
 -- the number and the name of the fault of a line
-abbrev pub fault_name : LineFault → List ℕ
-fault_name fault.BadLine = codes "22 BadLine"
-fault_name fault.LineTooLong = codes "23 LineTooLong"
-fault_name fault.BadName = codes "17 BadName"
+abbrev pub line_fault_name : LineFault → List ℕ
+line_fault_name fault.BadLine = codes "22 BadLine"
+line_fault_name fault.LineTooLong = codes "23 LineTooLong"
+line_fault_name fault.BadName = codes "17 BadName"
 
 -- the number and the name of the fault that stopped a run
-abbrev pub stop_name : ScriptFault → List ℕ
-stop_name Read = codes "24 Read"
-stop_name Write = codes "25 Write"
+abbrev pub script_fault_name : ScriptFault → List ℕ
+script_fault_name Read = codes "24 Read"
+script_fault_name Write = codes "25 Write"
 
 -- the refusal of an event of a trace: the event's number, and the cause
 abbrev pub trace_step_words : ℕ → Refusal → List ℕ
@@ -73,8 +73,8 @@ busy_words next served = codes " next" ++ spaced_number next ++ codes " served" 
 -- the words of any refusal or fault: its number, its name and its data
 abbrev pub any_refusal_words : AnyRefusal → List ℕ
 any_refusal_words (Refused cause) = refusal_words cause
-any_refusal_words (Unread cause) = fault_name cause
-any_refusal_words (Stopped cause) = stop_name cause
+any_refusal_words (Unread cause) = line_fault_name cause
+any_refusal_words (Stopped cause) = script_fault_name cause
 any_refusal_words (Flawed flaw) = codes "26 Flaw" ++ spaced_number (flaw_number flaw)
 any_refusal_words HistoryFull = codes "21 HistoryFull"
 any_refusal_words BadTrace = codes "27 BadTrace"

@@ -28,7 +28,7 @@ abbrev pub origin_words : Origin → List ℕ
 origin_words origin =
     codes "origin call " ++ step_number_words origin.call ++ codes " put " ++ step_number_words origin.put ++ codes " take" ++ spaced_number origin.take
 
--- this word, a space and a number, or `none` in its place if there is no number
+-- this word, a space, and the number, or `none` if there is no number
 abbrev pub number_or_none : List ℕ → Option ℕ → List ℕ
 number_or_none word None = word ++ codes " none"
 number_or_none word (Some n) = word ++ spaced_number n

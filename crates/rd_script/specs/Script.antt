@@ -12,7 +12,8 @@ use Rattle.rd_script.specs.Lines.{lines_of, ended_lines_of}
 use Rattle.rd_script.specs.Answers.{AreObeyedLines, report_of}
 use Rattle.rd_script.specs.Replies.{LineAnswer, answer_text}
 
--- the line of an answer was written, or a beginning of it if the sink failed
+-- by the result, the line of an answer was written, or a beginning of it if the sink failed
+-- (`Write`); false for `Read`. The sink's bytes went from `old` to `new`
 abbrev pub WritesAnswer : Option (List ℕ) → Option (List ℕ) → LineAnswer → Result (Unit {0}) ScriptFault → Type 0
 WritesAnswer old new answer (Ok _) = Appends old new (answer_text answer)
 WritesAnswer old new answer (Err Write) = TakesBeginning old new (answer_text answer)
@@ -31,8 +32,8 @@ pub record RanToEnd (before after : BookState) (kept : Journal) (d : Devices) (n
   pub obeyed : AreObeyedLines before (lines_of given) answers after kept
   pub wrote : Appends d.output.before d.output.after (report_of answers)
 
--- the source failed, or gave 2^64 - 1 bytes without an end. The book did each line that a line feed
--- ended, their report was written, and the sink has not failed
+-- the source failed, or gave at least 2^64 - 1 bytes (`given`). The book did each line that a line
+-- feed ended, their report was written, and the sink has not failed
 pub record StoppedAtRead (before after : BookState) (kept : Journal) (d : Devices) : Type 0 where
   pub out_works : d.output.failed ≡ false
   pub given : List ℕ
@@ -60,8 +61,8 @@ pub record StoppedAtWrite (before after : BookState) (kept : Journal) (d : Devic
   pub begins : IsPrefix part (answer_text last)
   pub wrote : Appends d.output.before d.output.after (report_of answers ++ part)
 
--- what a run of a script did, by its result: it took the book from `before` to `after`, which keeps
--- `kept`, and changed the devices so
+-- what a run of a script did, by its result: the number of lines, or the fault that stopped it. The
+-- book went from `before` to `after` and keeps the journal `kept`; `d` is how the devices changed
 abbrev pub RunsScript : BookState → BookState → Journal → Devices → Result ℕ ScriptFault → Type 0
 RunsScript before after kept d (Ok n) = RanToEnd before after kept d n
 RunsScript before after kept d (Err Read) = StoppedAtRead before after kept d

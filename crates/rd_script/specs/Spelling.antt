@@ -11,22 +11,22 @@ use Rattle.rd_script.specs.declared.reading.keywords.Keyword.{Keyword}
 use Rattle.rd_script.specs.Grammar.{keyword_text, keyword_of, arguments_of, kind_text, kind_of, place_arguments, argument_words, AreArgumentsInRange, names_after}
 
 -- the line of these words, joined by spaces
-abbrev pub line_of : List (List ℕ) → List ℕ
-line_of words = join_with_byte 32 words
+abbrev pub joined_by_spaces : List (List ℕ) → List ℕ
+joined_by_spaces words = join_with_byte 32 words
 
 -- the one line that spells a command: its keyword, then its arguments
 abbrev pub spelling : Command → List ℕ
-spelling command = line_of (keyword_text (keyword_of command) ∷ argument_words (arguments_of command))
+spelling command = joined_by_spaces (keyword_text (keyword_of command) ∷ argument_words (arguments_of command))
 
--- the words that spell a place in a line
+-- the words that spell a place, joined by spaces: its kind, then its arguments
 abbrev pub place_words : Place → List ℕ
-place_words place = line_of (kind_text (kind_of place) ∷ argument_words (place_arguments place))
+place_words place = joined_by_spaces (kind_text (kind_of place) ∷ argument_words (place_arguments place))
 
 -- each number of the command is in its range, and each name is one that a bookmark can have
 abbrev pub IsInRange : Command → Type 0
 IsInRange command = AreArgumentsInRange (arguments_of command)
 
--- two commands are the same: their keywords and arguments are equal (of names, the bytes count)
+-- two commands are the same: their keywords and arguments are equal, names by their bytes
 abbrev pub IsSameCommand : Command → Command → Type 0
 IsSameCommand a b = (keyword_of a ≡ keyword_of b) × (arguments_of a ≡ arguments_of b)
 
@@ -41,14 +41,15 @@ AreMisnamed keyword words = (length words ≡ names_after keyword) × (list_all 
 
 -- the line follows the grammar, except that a word in the place of a bookmark's name is no name
 abbrev pub IsMisnamed : List ℕ → Type 0
-IsMisnamed line = (keyword : Keyword) × (words : List (List ℕ)) × AreMisnamed keyword words × (line ≡ line_of (keyword_text keyword ∷ words))
+IsMisnamed line = (keyword : Keyword) × (words : List (List ℕ)) × AreMisnamed keyword words × (line ≡ joined_by_spaces (keyword_text keyword ∷ words))
 
 -- the greatest number of bytes in a line, without its line feed
 abbrev pub most_line_bytes : ℕ
 most_line_bytes = 256
 
--- the line spells this command, or has this fault. A line has at most one fault: LineTooLong, or
--- else BadName if only a name is wrong, or else BadLine
+-- the line, of at most 256 bytes, spells this command, whose arguments are in range; or it has this
+-- fault: LineTooLong if it is longer, else BadName if only names are wrong, else BadLine if it
+-- spells no such command
 abbrev pub Says : List ℕ → Result Command LineFault → Type 0
 Says line (Ok command) = (length line ≤ most_line_bytes) × IsInRange command × (line ≡ spelling command)
 Says line (Err fault.LineTooLong) = most_line_bytes < length line

@@ -16,13 +16,13 @@ use Rattle.rd_cell.specs.declared.places.Wrote.TheVariants as wrote
 abbrev pub step_place_words : Option Place → List ℕ
 step_place_words o = option_map_or place_words o (codes "-")
 
--- the word for what a step did at its place: it read, wrote, or wrote only the index half; `none`
+-- the words for what a step did at its place: it read, wrote, or wrote only the index half; `none`
 -- if it has no place
-abbrev pub access_kind_word : Option Place → Wrote → List ℕ
-access_kind_word None _ = codes "none"
-access_kind_word (Some place) wrote.Nothing = codes "read"
-access_kind_word (Some place) wrote.Place = codes "wrote"
-access_kind_word (Some place) wrote.Index = codes "wrote index"
+abbrev pub access_kind_words : Option Place → Wrote → List ℕ
+access_kind_words None _ = codes "none"
+access_kind_words (Some place) wrote.Nothing = codes "read"
+access_kind_words (Some place) wrote.Place = codes "wrote"
+access_kind_words (Some place) wrote.Index = codes "wrote index"
 
 -- the words of the answer of an access, or a hyphen if that is nothing
 abbrev pub access_answer_words : Answer → List ℕ
@@ -45,9 +45,9 @@ result_words op_reply.Empty = codes "empty"
 abbrev pub step_result_words : Option OpReply → List ℕ
 step_result_words o = option_map_or result_words o (codes "-")
 
--- the words of a step's place, access and answer
+-- the words of a step's place, and of the kind and answer of its access, with semicolons between
 abbrev pub access_words : Entry → List ℕ
-access_words e = step_place_words e.place ++ codes "; " ++ access_kind_word e.place e.wrote ++ codes "; " ++ access_answer_words e.answer
+access_words e = step_place_words e.place ++ codes "; " ++ access_kind_words e.place e.wrote ++ codes "; " ++ access_answer_words e.answer
 
 -- all words of the step of this number, from its entry
 abbrev pub step_words : ℕ → Entry → List ℕ

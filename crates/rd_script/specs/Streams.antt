@@ -12,16 +12,18 @@ pub record Stream : Type 0 where
   pub after : Option (List ℕ)
   pub failed : Bool
 
--- the stream of a sink, from what it was before a call and after it
+-- the stream of a sink, which was `old` before a call and is `new` after it; `sink` gives the
+-- contract-only members of its type
 abbrev pub sink_stream : {K : Type 0} → SinkOf K → K → K → Stream
 sink_stream sink old new = record { before = sink.contents old; after = sink.contents new; failed = sink.has_failed new }
 
--- the reader and the writer of a run
+-- how a call changed its reader (`input`) and its writer (`output`)
 pub record Devices : Type 0 where
   pub input : Stream
   pub output : Stream
 
--- the devices of a call, from what its source and its sink were before it and after it
+-- the devices of a call, from its reader and writer before it, and after it (`reader'`, `writer'`);
+-- `source` and `sink` give the contract-only members of their types
 abbrev pub devices : {S K : Type 0} → SourceOf S → SinkOf K → S → S → K → K → Devices
 devices source sink reader reader' writer writer' = record {
   input = record { before = source.bytes reader; after = source.bytes reader'; failed = source.has_failed reader' };
@@ -32,7 +34,7 @@ devices source sink reader reader' writer writer' = record {
 abbrev pub IsUnused : Stream → Type 0
 IsUnused s = Keeps s.before s.after × (s.failed ≡ false)
 
--- a stream got nothing: it has what it had, and has failed exactly if it had failed before, which
--- the flag says
+-- a stream got nothing: it has what it had, and has failed exactly if it had failed before
+-- (`had_failed`)
 abbrev pub GetsNothing : Bool → Stream → Type 0
 GetsNothing had_failed s = (s.after ≡ s.before) × (s.failed ≡ had_failed)

@@ -25,7 +25,7 @@ pub use devices::sources::{ReadSource, Source};
 pub use faults::{LineFault, ScriptFault};
 pub use reading::commands::command_in;
 pub use reading::keywords::FORMS;
-pub use reading::whole_texts::{ParsedLine, commands_in, lines};
+pub use reading::whole_texts::{ParsedLine, lines, spelled_commands};
 pub use rings::Ring;
 pub use script::run;
 pub use writing::headings::{Heading, set_heading};

@@ -13,7 +13,7 @@ ghost use Rattle.rd_script.specs.Lines.{Holds};
 ghost use Rattle.rd_script.specs.declared.faults.LineFault.{LineFault};
 ghost use Rattle.rd_script.specs.Spelling.{Says};
 ghost use Rattle.rd_script.specs.Replies.{LineAnswer as SomeAnswer, answer_text};
-ghost use Rattle.rd_script.specs.Answers.{AnswersSaid, line_answer};
+ghost use Rattle.rd_script.specs.Answers.{AnswersParsedLine, line_answer};
 ghost use Rattle.rd_script.specs.Script.{WritesAnswer, RunsScript};
 
 use super::answers::AnyRefusal;
@@ -78,7 +78,7 @@ fn do_line<K: Sink, const R: usize>(
     requires { K.has_failed writer.old ≡ false }
     ensures does { (text : List ℕ) → Holds line.now text
         → (said : Result SomeCommand LineFault) × (answer : SomeAnswer) × Says text said
-        × AnswersSaid (book_state book.old) said answer (book_state book.new)
+        × AnswersParsedLine (book_state book.old) said answer (book_state book.new)
         × WritesAnswer (K.contents writer.old) (K.contents writer.new) answer result }
     ensures start { (book_state book.new).session.start ≡ (book_state book.old).session.start }
     ensures works { OnOk result (K.has_failed writer.new ≡ false) }
@@ -93,7 +93,7 @@ fn do_line<K: Sink, const R: usize>(
 fn answer_line<const R: usize>(book: &mut Book<R>, line: &Line, text: &mut Text)
     ensures answers { (bytes : List ℕ) → Holds line.now bytes
         → (said : Result SomeCommand LineFault) × (answer : SomeAnswer) × Says bytes said
-        × AnswersSaid (book_state book.old) said answer (book_state book.new)
+        × AnswersParsedLine (book_state book.old) said answer (book_state book.new)
         × (text.new.items ≡ answer_text answer) }
     ensures start { (book_state book.new).session.start ≡ (book_state book.old).session.start }
 {

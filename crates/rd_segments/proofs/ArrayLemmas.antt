@@ -1,5 +1,5 @@
 -- The array's map after an operation on one of its places.
-use Rattle.rd_segments.proofs.Prelude.{◌≡◌, ℕ, ◌<◌, false, List, length, set, get_or, option_map, Result, IfOk, arith, slice_get-get_or, SLOTS, Place, Operation, Done, Refusal, place_eq, everywhere, Operates, OperatesOn, slice_get-set_same, slice_get-set_other, Operates-from_OperatesOn, fresh_array, eqb-false, ArrSlot, array_contents_with, All, fun_ext, slice_get_cases}
+use Rattle.rd_segments.proofs.Prelude.{◌≡◌, ℕ, ◌<◌, false, List, length, set, get_or, option_map, Result, IfOk, arith, slice_get-get_or, SLOTS, Place, Operation, Done, Refusal, place_eq, everywhere, Operates, OperatesOnContent, slice_get-set_same, slice_get-set_other, Operates-from_OperatesOn, fresh_array, eqb-false, ArrSlot, array_contents_with, All, fun_ext, slice_get_cases}
 use Rattle.rd_cell.specs.declared.places.Place.TheVariants as place
 use Rattle.rd_cell.specs.declared.contents.ArrSlot.TheVariants as slot
 use Rattle.rd_cell.specs.declared.contents.Content.TheVariants as content
@@ -30,6 +30,6 @@ slot_other head tail cells i slot q h = grind (arith, eqb-false, option_map, sli
 -- slot's
 pub slot_does : (head tail : ℕ) (cells : List ArrSlot) (i j : ℕ) (old new d : ArrSlot) (p : Place) (op : Operation) → p ≡ place.ArrCell i → j ≡ i
     → j < length cells → old ≡ get_or cells j d → (r : Result Done Refusal)
-    → IfOk r (λ done. OperatesOn (place.ArrCell i) op done (content.Slot old) (content.Slot new))
+    → IfOk r (λ done. OperatesOnContent (place.ArrCell i) op done (content.Slot old) (content.Slot new))
     → IfOk r (λ done. Operates everywhere p op done (array_contents_with head tail cells) (array_contents_with head tail (set cells j new)))
 slot_does head tail cells i j old new d p op at same within read r h = grind (arith, slice_get-get_or, slice_get-set_same, Operates-from_OperatesOn, slot_other)

@@ -1,5 +1,5 @@
 -- A space is fresh exactly if its ends, its array and its makers' lists are.
-use Rattle.rd_segments.proofs.Prelude.{◌≡◌, ℕ, suc, ◌-◌, ◌≤◌, if◌then◌else◌, All, List, [], ◌∷◌, length, get_or, take, drop, slice_get, Option, Some, None, refl, sym, ap, ◌∙◌, arith, lt-ltb, common_steps, cond-true, slice_get-get_or, fun_ext, name_eq-true, SegName, Place, Content, root, name_eq, Contents, fresh_segment, Segment, segment_contents, ListOf, by_number, by_name, some_contents, AreFreshLists, IsOneFreshSegment, ArrayParts, array_contents, fresh_array, contents_of, fresh_space, take_rest, slice_get_cases}
+use Rattle.rd_segments.proofs.Prelude.{◌≡◌, ℕ, suc, ◌-◌, ◌≤◌, if◌then◌else◌, All, List, [], ◌∷◌, length, get_or, take, drop, slice_get, Option, Some, None, refl, sym, ap, ◌∙◌, arith, lt-ltb, common_steps, cond-true, slice_get-get_or, fun_ext, name_eq-true, SegName, Place, Content, root, name_eq, Contents, fresh_segment, Segment, segment_contents, ListOf, element_in, by_name, some_contents, AreFreshLists, IsOneFreshSegment, ArrayParts, array_contents, fresh_array, contents_of_fields, fresh_space, take_rest, slice_get_cases}
 use Rattle.rd_cell.specs.declared.places.Place.TheVariants as place
 use Rattle.rd_cell.specs.declared.contents.ArrSlot.TheVariants as slot
 use Rattle.rd_cell.specs.declared.contents.Content.TheVariants as content
@@ -21,11 +21,11 @@ module _ (a : ArrayParts) (e : array_contents a ≡ fresh_array) where
 module _ {R : ℕ} where
   -- a list of one fresh segment has just that segment
   pub one_alone : (s : Segment R) → ((q : Place) → segment_contents s q ≡ fresh_segment R q) → IsOneFreshSegment (s ∷ [])
-  one_alone s parts = record { segment = s; fresh_parts = parts; alone = refl }
+  one_alone s parts = record { segment = s; fresh_contents = parts; alone = refl }
 
   -- the one segment of such a list is fresh
   pub alone_one : (s : Segment R) → IsOneFreshSegment (s ∷ []) → (q : Place) → segment_contents s q ≡ fresh_segment R q
-  alone_one s h q = let same : s ≡ h.segment = cc (h.alone) in ap (λ (x : Segment R). segment_contents x q) same ∙ h.fresh_parts q
+  alone_one s h q = let same : s ≡ h.segment = cc (h.alone) in ap (λ (x : Segment R). segment_contents x q) same ∙ h.fresh_contents q
 
   -- a list of length 1 is its first element alone
   pub only_one : (ss : List (Segment R)) (s : Segment R) → length ss ≡ 1 → s ≡ get_or ss 0 s → ss ≡ s ∷ []
@@ -36,7 +36,7 @@ module _ {R : ℕ} where
       → makers ≡ first ∷ take (length makers - 1) (drop 1 makers)
   first_and_others makers first some is = grind (arith, common_steps, take_rest)
 
-  none_in : (lists : List (ListOf (Segment R))) (m n : ℕ) → All (λ list. list.items ≡ []) lists → by_number (slice_get lists m) n ≡ None
+  none_in : (lists : List (ListOf (Segment R))) (m n : ℕ) → All (λ list. list.items ≡ []) lists → element_in (slice_get lists m) n ≡ None
   none_in lists m n h = grind (arith, slice_get_cases)
 
   other_maker : (m n : ℕ) (s : Segment R) → (if name_eq root (record { maker = suc m; n = n }) then Some s else None) ≡ None
@@ -45,14 +45,14 @@ module _ {R : ℕ} where
   -- if the first list has just this segment and all others are empty, that segment is the root, and
   -- there is no other
   pub root_alone : (first : ListOf (Segment R)) (lists : List (ListOf (Segment R))) (s : Segment R) → first.items ≡ s ∷ [] → All (λ list. list.items ≡ []) lists → (m n : ℕ)
-      → by_number (slice_get (first ∷ lists) m) n ≡ (if name_eq root (record { maker = m; n = n }) then Some s else None)
+      → element_in (slice_get (first ∷ lists) m) n ≡ (if name_eq root (record { maker = m; n = n }) then Some s else None)
   root_alone first lists s one none m n = grind (arith, none_in)
 
   -- lists are fresh if the first has just a fresh segment and all others are empty
   pub fresh_lists : (first : ListOf (Segment R)) (lists : List (ListOf (Segment R))) → IsOneFreshSegment first.items → All (λ list. list.items ≡ []) lists → AreFreshLists (first ∷ lists)
   fresh_lists first lists h none = record {
     segment = h.segment;
-    fresh_parts = h.fresh_parts;
+    fresh_contents = h.fresh_contents;
     at = λ t. root_alone first lists h.segment h.alone none t.maker t.n;
   }
 
@@ -71,13 +71,13 @@ module _ {R : ℕ} where
     pub first_alone : IsOneFreshSegment first.items
     first_alone = record {
       segment = h.segment;
-      fresh_parts = h.fresh_parts;
+      fresh_contents = h.fresh_contents;
       alone = only_first first.items h.segment (h.at root) (h.at (record { maker = 0; n = 1 }));
     }
 
     pub others_empty : All (λ list. list.items ≡ []) lists
     others_empty k d within =
-        no_first (get_or lists k d).items (ap (λ o. by_number o 0) (sym (slice_get-get_or lists k d within)) ∙ h.at (record { maker = suc k; n = 0 }) ∙ other_maker k 0 h.segment)
+        no_first (get_or lists k d).items (ap (λ o. element_in o 0) (sym (slice_get-get_or lists k d within)) ∙ h.at (record { maker = suc k; n = 0 }) ∙ other_maker k 0 h.segment)
 
 -- ---- the space
 
@@ -88,8 +88,8 @@ some_segment (Some s) c h = (s, refl)
 no_segment : {R : ℕ} (o : Option (Segment R)) (t : SegName) → some_contents o (place.Head t) ≡ None → o ≡ None
 no_segment o t h = grind arith
 
-module _ {R : ℕ} (makers : List (ListOf (Segment R))) (qhead qtail : SegName) (array : ArrayParts) (e : contents_of makers qhead qtail array ≡ fresh_space R) where
-  at : (q : Place) → contents_of makers qhead qtail array q ≡ fresh_space R q
+module _ {R : ℕ} (makers : List (ListOf (Segment R))) (qhead qtail : SegName) (array : ArrayParts) (e : contents_of_fields makers qhead qtail array ≡ fresh_space R) where
+  at : (q : Place) → contents_of_fields makers qhead qtail array q ≡ fresh_space R q
   at q = ap (λ (f : Contents). f q) e
 
   pub fresh_ends : (qhead ≡ root) × (qtail ≡ root)
@@ -115,4 +115,4 @@ module _ {R : ℕ} (makers : List (ListOf (Segment R))) (qhead qtail : SegName) 
   pub fresh_inside : (array_contents array ≡ fresh_array) × AreFreshLists makers
   fresh_inside =
       let found = some_segment (by_name makers root) (content.Number 0) (at (place.Head root)) in
-      (fun_ext array_at, record { segment = found.0; fresh_parts = root_parts found.0 found.1; at = by_names found.0 found.1 })
+      (fun_ext array_at, record { segment = found.0; fresh_contents = root_parts found.0 found.1; at = by_names found.0 found.1 })

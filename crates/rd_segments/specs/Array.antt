@@ -6,7 +6,8 @@ use Rattle.rd_cell.specs.declared.places.Place.TheVariants as place
 use Rattle.rd_cell.specs.declared.contents.ArrSlot.TheVariants as slot
 use Rattle.rd_cell.specs.declared.contents.Content.TheVariants as content
 
--- the content of each place of an array with these two counters and these slots
+-- the content of each place of an array with these head and tail counters and these slots, slot 0
+-- first; none at every other place
 abbrev pub array_contents_with : ℕ → ℕ → List ArrSlot → Contents
 array_contents_with head tail cells place.ArrHead = Some (content.Number head)
 array_contents_with head tail cells place.ArrTail = Some (content.Number tail)
@@ -17,7 +18,8 @@ array_contents_with head tail cells _ = None
 abbrev pub array_contents : ArrayParts → Contents
 array_contents a = array_contents_with a.head a.tail a.cells
 
--- the content of each place of a fresh array: its counters are 0, and its 64 slots are empty
+-- the content of each place of a fresh array: its counters are 0, and its 64 slots are empty; none
+-- at every other place
 abbrev pub fresh_array : Contents
 fresh_array place.ArrHead = Some (content.Number 0)
 fresh_array place.ArrTail = Some (content.Number 0)

@@ -8,29 +8,24 @@ use Rattle.rd_cell.specs.declared.places.Place.TheVariants as place
 use Rattle.rd_cell.specs.declared.refusal.Refusal.TheVariants as refusal
 
 -- the number of further segments for which a list has room; 0 without a list
-abbrev pub spare_in : {R : ℕ} → Option (ListOf (Segment R)) → ℕ
-spare_in o = option_map_or (λ list. vec_capacity list - vec_len list) o 0
+abbrev pub room_in_list : {R : ℕ} → Option (ListOf (Segment R)) → ℕ
+room_in_list o = option_map_or (λ list. vec_capacity list - vec_len list) o 0
 
 -- the number of further segments for which this maker's list has room; 0 if the maker has no list
-abbrev pub spare : {R : ℕ} → List (ListOf (Segment R)) → ℕ → ℕ
-spare makers m = spare_in (slice_get makers m)
+abbrev pub room_of_maker : {R : ℕ} → List (ListOf (Segment R)) → ℕ → ℕ
+room_of_maker makers m = room_in_list (slice_get makers m)
 
 -- the room of maker m that a making by `maker` uses: 1 if the making succeeded and m is that maker,
 -- else 0
 abbrev pub room_used : Bool → ℕ → ℕ → ℕ
 room_used made maker m = if made && (m == maker) then 1 else 0
 
--- the room of maker m that is given back when the places that this place covers are removed: 1 for
--- the whole of a segment of m, else 0
-abbrev pub room_freed : Option Place → ℕ → ℕ
-room_freed (Some (place.Whole s)) m = room_used true s.maker m
-room_freed _ m = 0
-
 -- the room of maker m that is given back when this old content, or none, is put back at a place: 1
 -- if that removes a segment of m, else 0
 abbrev pub room_returned : Option Place → Option Content → ℕ → ℕ
 room_returned p (Some c) m = 0
-room_returned p None m = room_freed p m
+room_returned (Some (place.Whole s)) None m = room_used true s.maker m
+room_returned _ _ m = 0
 
 -- the room of all makers: the number of makers that have a list, and in `at` the number of further
 -- segments for which each maker's list has room
@@ -40,7 +35,7 @@ pub record MakersRoom : Type 0 where
 
 -- the room of all makers in these lists
 abbrev pub makers_room : {R : ℕ} → List (ListOf (Segment R)) → MakersRoom
-makers_room makers = record { makers = length makers; at = spare makers }
+makers_room makers = record { makers = length makers; at = room_of_maker makers }
 
 -- no maker's room changed, and no maker got or lost a list
 pub record KeepsMakersRoom (old new : MakersRoom) : Type 0 where
@@ -48,22 +43,23 @@ pub record KeepsMakersRoom (old new : MakersRoom) : Type 0 where
   pub same : (m : ℕ) → new.at m ≡ old.at m
 
 -- a call with this result used room: at most 1 of this maker's if `makes` holds and the call
--- succeeded, else none. Only this maker's room may change, and only if `makes` holds. A call that
--- was refused with `SegmentsEnd` changes no room
+-- succeeded, else none. Only this maker's room may change, and only if `makes` holds; it may also
+-- grow. A call that was refused with `SegmentsEnd` changes no room. No maker got or lost a list
 pub record UsesMakersRoom {T : Type 0} (result : Result T Refusal) (makes : Bool) (maker : ℕ) (old new : MakersRoom) : Type 0 where
   pub makers : new.makers ≡ old.makers
   pub used : (m : ℕ) → old.at m ≤ new.at m + room_used (is_ok result && makes) maker m
   pub others : (m : ℕ) → (IsTrue makes → m ≢ maker) → new.at m ≡ old.at m
   pub ended : result ≡ Err refusal.SegmentsEnd → (m : ℕ) → new.at m ≡ old.at m
 
--- each maker has its old room, and in addition the room `returned` to it
+-- each maker has its old room, and in addition the room `returned` to it; no maker got or lost a
+-- list
 pub record ReturnsMakersRoom (returned : ℕ → ℕ) (old new : MakersRoom) : Type 0 where
   pub makers : new.makers ≡ old.makers
   pub returns : (m : ℕ) → new.at m ≡ old.at m + returned m
 
--- a call with this result gave this maker room for `more` segments, or it was refused, and then the
--- maker had less room before. No maker has less room than before, and the room of other makers
--- stays
+-- if the call with this result succeeded, this maker has room for at least `more` segments; if it
+-- was refused, the maker had room for fewer before. No maker has less room than before, the room of
+-- other makers stays, and no maker got or lost a list
 pub record AddsMakersRoom {T E : Type 0} (result : Result T E) (maker more : ℕ) (old new : MakersRoom) : Type 0 where
   pub makers : new.makers ≡ old.makers
   pub ok : OnOk result (more ≤ new.at maker)

@@ -4,24 +4,26 @@ use Rattle.rd_ring.specs.Prelude.{SegName, Contents}
 use Rattle.rd_segments.specs.declared.array.ArrayParts.{ArrayParts}
 use Rattle.rd_segments.specs.declared.space.Space.{Space}
 use Rattle.rd_segments.specs.Lists.{segment_count}
-use Rattle.rd_segments.specs.Room.{MakersRoom, makers_room as room_of_lists, spare}
-use Rattle.rd_segments.specs.SpaceFields.{contents_of}
+use Rattle.rd_segments.specs.Room.{MakersRoom, makers_room as room_of_lists, room_of_maker}
+use Rattle.rd_segments.specs.SpaceFields.{contents_of_fields}
 
 -- the content of each place of the space
 abbrev pub contents : {R : ℕ} → Space R → Contents
-contents s = contents_of s.makers.items s.qhead s.qtail s.array
+contents s = contents_of_fields s.makers.items s.qhead s.qtail s.array
 
 -- the number of makers that have a list
 abbrev pub list_count : {R : ℕ} → Space R → ℕ
 list_count s = length s.makers.items
 
--- the number of segments that a maker has made
+-- the number of segments that a maker has made and that are still there; 0 if it has no list. The
+-- root counts as made by maker 0
 abbrev pub making_count : {R : ℕ} → Space R → ℕ → ℕ
 making_count s m = segment_count s.makers.items m
 
--- the number of further segments that a maker can make without asking for memory
+-- the number of further segments for which a maker's list has room, so that making them needs no
+-- memory; 0 if it has no list
 abbrev pub room : {R : ℕ} → Space R → ℕ → ℕ
-room s m = spare s.makers.items m
+room s m = room_of_maker s.makers.items m
 
 -- the room of all makers of the space
 abbrev pub makers_room : {R : ℕ} → Space R → MakersRoom

@@ -3,7 +3,7 @@
 
 ghost use Rattle.std.specs.Prelude.{◌≡◌, ◌↔◌, is_some, length, Some, Err, IsTrue, IfOk, IfErr, OnErr};
 ghost use Rattle.std.specs.List.{All};
-ghost use Rattle.rd_ring.specs.Prelude.{SLOTS, can_hold, operand, operate, restore, everywhere, Operates, OperatesOn};
+ghost use Rattle.rd_ring.specs.Prelude.{SLOTS, can_hold, operand, operate, restore, everywhere, Operates, OperatesOnContent};
 ghost use Rattle.rd_cell.specs.Operations.{suits_array};
 
 use rd_cell::limits::SLOTS;
@@ -127,7 +127,7 @@ fn operate_on_counter(
     operation: Operation,
 ) -> Result<Done, Refusal>
     requires { IsTrue (suits_array operation) }
-    ensures ok { IfOk result (λ done. OperatesOn place operation done (Content.Number counter.old)
+    ensures ok { IfOk result (λ done. OperatesOnContent place operation done (Content.Number counter.old)
         (Content.Number counter.new)) }
     ensures err { IfErr result (λ e. operate place operation (Some (Content.Number counter.old))
         ≡ Err e) }
@@ -135,13 +135,18 @@ fn operate_on_counter(
 {
     let found = Content::Number(*counter);
     match operation {
-        Operation::Read => Ok(Done::at(place, found, Answer::Found(found), Wrote::Nothing)),
+        Operation::Read => Ok(Done::of_operation(
+            place,
+            found,
+            Answer::Found(found),
+            Wrote::Nothing,
+        )),
         Operation::AddArray => {
             if *counter >= SLOTS as u64 {
                 return Err(Refusal::ArrayEnd);
             }
             *counter += 1;
-            Ok(Done::at(place, found, Answer::Found(found), Wrote::Place))
+            Ok(Done::of_operation(place, found, Answer::Found(found), Wrote::Place))
         }
         _ => Err(Refusal::NoSuchPlace),
     }
@@ -151,7 +156,7 @@ fn operate_on_counter(
 /// the slot's place, for the record alone. Fails with `NoSuchPlace` for any other operation; the
 /// slot then stays.
 fn operate_on_slot(slot: &mut ArrSlot, place: Place, operation: Operation) -> Result<Done, Refusal>
-    ensures ok { IfOk result (λ done. OperatesOn place operation done (Content.Slot slot.old)
+    ensures ok { IfOk result (λ done. OperatesOnContent place operation done (Content.Slot slot.old)
         (Content.Slot slot.new)) }
     ensures err { IfErr result (λ e. operate place operation (Some (Content.Slot slot.old))
         ≡ Err e) }
@@ -161,7 +166,7 @@ fn operate_on_slot(slot: &mut ArrSlot, place: Place, operation: Operation) -> Re
     match operation {
         Operation::Swap(new) => {
             *slot = new;
-            Ok(Done::at(place, found, Answer::Found(found), Wrote::Place))
+            Ok(Done::of_operation(place, found, Answer::Found(found), Wrote::Place))
         }
         _ => Err(Refusal::NoSuchPlace),
     }

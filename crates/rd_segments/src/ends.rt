@@ -1,7 +1,7 @@
 //! The names at the queue's two ends.
 
 ghost use Rattle.std.specs.Prelude.{◌≡◌, Some, Err, IfOk, IfErr, OnErr};
-ghost use Rattle.rd_ring.specs.Prelude.{operate, OperatesOn};
+ghost use Rattle.rd_ring.specs.Prelude.{operate, OperatesOnContent};
 
 use rd_cell::{Answer, Content, Done, Operation, Place, Refusal, SegName, Wrote};
 
@@ -16,7 +16,7 @@ pub fn operate_on_name(
     place: Place,
     operation: Operation,
 ) -> Result<Done, Refusal>
-    ensures ok { IfOk result (λ done. OperatesOn place operation done (Content.Name name.old)
+    ensures ok { IfOk result (λ done. OperatesOnContent place operation done (Content.Name name.old)
         (Content.Name name.new)) }
     ensures err { IfErr result (λ e. operate place operation (Some (Content.Name name.old))
         ≡ Err e) }
@@ -24,7 +24,12 @@ pub fn operate_on_name(
 {
     let found = Content::Name(*name);
     match operation {
-        Operation::Read => Ok(Done::at(place, found, Answer::Found(found), Wrote::Nothing)),
+        Operation::Read => Ok(Done::of_operation(
+            place,
+            found,
+            Answer::Found(found),
+            Wrote::Nothing,
+        )),
         Operation::CasName { old, new } => {
             let won = *name == old;
             if won {

@@ -1,11 +1,11 @@
 //! The makers' lists of segments, and the operations on one segment of one list. The segments have
-//! `R` cells, which must be 1 to 64.
+//! `R` cells, which must be at most 64, and for a making at least 1.
 
 ghost use Rattle.std.specs.Prelude.{◌≡◌, ◌≢◌, ◌+◌, ◌-◌, ◌<◌, ◌≤◌, ℕ, Some, None, Err, is_some, IsTrue, IfOk, IfErr, OnOk, OnErr, MatchOption, take, true, length, is_ok, vec_len, vec_capacity, if◌then◌else◌};
 ghost use Rattle.rd_ring.specs.Prelude.{MOST_CELLS, SegName, Place, segment_of, can_hold, operand, operate, segment_holding, everywhere, Operates, Makes, Restores, RefusesMaking};
 ghost use Rattle.rd_cell.specs.Operations.{suits_segments};
-ghost use Rattle.rd_segments.specs.Lists.{by_name, some_contents, segments_of, segment_count, IsLengthened};
-ghost use Rattle.rd_segments.specs.Room.{spare, room_used, makers_room, KeepsMakersRoom, UsesMakersRoom, ReturnsMakersRoom, AddsMakersRoom};
+ghost use Rattle.rd_segments.specs.Lists.{by_name, some_contents, contents_of_lists, segment_count, MakesNext};
+ghost use Rattle.rd_segments.specs.Room.{room_of_maker, room_used, makers_room, KeepsMakersRoom, UsesMakersRoom, ReturnsMakersRoom, AddsMakersRoom};
 
 use rd_cell::limits::MOST_SEGMENTS;
 use rd_cell::{Content, Done, Operation, Place, Refusal, SegName};
@@ -13,7 +13,7 @@ use rd_ring::Segment;
 use std::alloc::AllocError;
 
 /// Returns the segment of this name, or none if it is not there.
-pub fn find<const R: usize>(makers: &Vec<Vec<Segment<R>>>, name: SegName) -> Option<&Segment<R>>
+pub fn find_in<const R: usize>(makers: &Vec<Vec<Segment<R>>>, name: SegName) -> Option<&Segment<R>>
     requires { R ≤ MOST_CELLS }
     ensures { MatchOption result (by_name makers.now.items name ≡ None)
         (λ s. by_name makers.now.items name ≡ Some s.now) }
@@ -38,10 +38,10 @@ pub fn operate_in<const R: usize>(
     requires its { segment_of place ≡ Some name }
     requires suits { IsTrue (suits_segments operation) }
     ensures ok { IfOk result (λ done. Operates everywhere place operation done
-        (segments_of makers.old.items) (segments_of makers.new.items)) }
+        (contents_of_lists makers.old.items) (contents_of_lists makers.new.items)) }
     ensures err { IfErr result (λ e. operate place operation
-        (operand (segments_of makers.old.items) place) ≡ Err e) }
-    ensures unchanged { OnErr result (segments_of makers.new.items ≡ segments_of makers.old.items) }
+        (operand (contents_of_lists makers.old.items) place) ≡ Err e) }
+    ensures unchanged { OnErr result (contents_of_lists makers.new.items ≡ contents_of_lists makers.old.items) }
     ensures room { KeepsMakersRoom (makers_room makers.old.items) (makers_room makers.new.items) }
 {
     let (maker, n) = (usize::from(name.maker), name.n as usize);
@@ -64,8 +64,8 @@ pub fn restore_in<const R: usize>(
         (by_name makers.old.items name)) place)) }
     requires its { segment_of place ≡ Some name }
     requires kind { IsTrue (can_hold place content) }
-    ensures done { Restores everywhere place (Some content) (segments_of makers.old.items)
-        (segments_of makers.new.items) }
+    ensures done { Restores everywhere place (Some content) (contents_of_lists makers.old.items)
+        (contents_of_lists makers.new.items) }
     ensures room { KeepsMakersRoom (makers_room makers.old.items) (makers_room makers.new.items) }
 {
     makers[usize::from(name.maker)][name.n as usize].restore(place, content);
@@ -89,11 +89,11 @@ pub fn make_in<const R: usize>(
     ensures name { IfOk result (λ name. name
         ≡ record { maker = maker; n = segment_count makers.old.items maker }) }
     ensures ok { IfOk result (λ name. Makes name (segment_holding R value)
-        (segments_of makers.old.items)
-        (segments_of makers.new.items)) }
+        (contents_of_lists makers.old.items)
+        (contents_of_lists makers.new.items)) }
     ensures err { IfErr result (λ e. RefusesMaking (segment_count makers.old.items maker)
-        (spare makers.old.items maker) e) }
-    ensures unchanged { OnErr result (segments_of makers.new.items ≡ segments_of makers.old.items) }
+        (room_of_maker makers.old.items maker) e) }
+    ensures unchanged { OnErr result (contents_of_lists makers.new.items ≡ contents_of_lists makers.old.items) }
     ensures room { UsesMakersRoom result true maker (makers_room makers.old.items)
         (makers_room makers.new.items) }
 {
@@ -111,7 +111,7 @@ fn make_next<const R: usize>(
 ) -> Result<SegName, Refusal>
     requires positive { 1 ≤ R }
     requires small { R ≤ MOST_CELLS }
-    ensures ok { IfOk result (λ name. IsLengthened maker value name list.old list.new) }
+    ensures ok { IfOk result (λ name. MakesNext maker value name list.old list.new) }
     ensures err { IfErr result (λ e. RefusesMaking (length list.old.items)
         (vec_capacity list.old - vec_len list.old) e) }
     ensures unchanged { OnErr result (list.new.items ≡ list.old.items) }
@@ -136,7 +136,7 @@ pub fn unmake_in<const R: usize>(makers: &mut Vec<Vec<Segment<R>>>, maker: u8)
     requires has_one { 0 < segment_count makers.old.items maker }
     ensures gone { Restores everywhere (Place.Whole
         (record { maker = maker; n = segment_count makers.old.items maker - 1 })) None
-        (segments_of makers.old.items) (segments_of makers.new.items) }
+        (contents_of_lists makers.old.items) (contents_of_lists makers.new.items) }
     ensures room { ReturnsMakersRoom (room_used true maker) (makers_room makers.old.items)
         (makers_room makers.new.items) }
 {
@@ -167,7 +167,7 @@ pub fn make_room_in<const R: usize>(
 ) -> Result<(), AllocError>
     requires small { R ≤ MOST_CELLS }
     requires maker_there { maker < length makers.old.items }
-    ensures unchanged { segments_of makers.new.items ≡ segments_of makers.old.items }
+    ensures unchanged { contents_of_lists makers.new.items ≡ contents_of_lists makers.old.items }
     ensures room { AddsMakersRoom result maker more (makers_room makers.old.items)
         (makers_room makers.new.items) }
 {

@@ -12,7 +12,7 @@ ghost use Rattle.rd_ring.specs.Segments.{counters_fit};
 
 use super::array::ArrayParts;
 use super::ends::operate_on_name;
-use super::lists::{find, make_in, make_room_in, operate_in, restore_in, unmake_in};
+use super::lists::{find_in, make_in, make_room_in, operate_in, restore_in, unmake_in};
 use super::makers::{are_fresh_lists, fresh_space_lists};
 use super::parts::{lists_from_parts, parts_of_lists};
 use rd_cell::{Content, Done, Operation, Place, Refusal, SegName};
@@ -151,7 +151,7 @@ impl<const R: usize> Space<R> {
         match place {
             Place::QHead => Some(Content::Name(self.qhead)),
             Place::QTail => Some(Content::Name(self.qtail)),
-            Place::Whole(name) => match find(&self.makers, name) {
+            Place::Whole(name) => match find_in(&self.makers, name) {
                 None => None,
                 Some(_) => Some(Content::Whole),
             },
@@ -160,7 +160,7 @@ impl<const R: usize> Space<R> {
             | Place::Next(name)
             | Place::Cell(name, _)
             | Place::Val(name, _)
-            | Place::Idx(name, _) => match find(&self.makers, name) {
+            | Place::Idx(name, _) => match find_in(&self.makers, name) {
                 None => None,
                 Some(segment) => segment.content(place),
             },
@@ -169,8 +169,8 @@ impl<const R: usize> Space<R> {
     }
 
     /// Does an operation at a place, and returns what it found, answered and wrote. `Add` must not
-    /// be asked of the array, nor `AddArray` of any other place, nor a `CasTail` to a count above
-    /// 2^62.
+    /// be asked of the array, nor at any other place `AddArray` or a `CasTail` to a count above
+    /// 2^62. Each maker keeps its room.
     ///
     /// # Errors
     ///
@@ -199,7 +199,7 @@ impl<const R: usize> Space<R> {
     }
 
     /// Makes the maker's next segment, which holds this value, and returns its name. The maker must
-    /// have a list.
+    /// have a list. This uses room of the maker for at most one segment; the others keep theirs.
     ///
     /// # Errors
     ///

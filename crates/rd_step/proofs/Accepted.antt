@@ -1,5 +1,5 @@
 -- Parts with a list for each maker, whose world is well-formed, have no flaw.
-use Rattle.rd_step.proofs.Prelude.{is_some-slice_get, ◌≡◌, ℕ, zero, suc, ◌≤◌, Bool, true, nat_lt, nat_le, ◌↔◌, inl, inr, refl, ◌∙◌, ap, subst, arith, List, [], ◌∷◌, length, slice_get, Option, Some, None, option_map, le-leb, ltb-true, eq-eqb, list_all, cases_lt, and_parts, and_from, MOST_ACTORS, MOST_SEGMENTS, COUNTER_END, SegName, Place, SegmentParts, counters_fit, by_number, by_name, count_in, segment_count, ListOf, some_parts_contents, each_segment, slice_get-is_some, numbered_there, Actor, words_fit, Parts, numbered, Presence, place_fits, next_fits, names_fit, numbers_within, record_fits, actor_fits, is_actor, IsNumbered, AreMade, IsWellFormed, world_of_parts, has_segment, indexes_fit, first_flaw, index_end, Content, can_hold, content_fits, segments_named_fit, index_within, subst₂}
+use Rattle.rd_step.proofs.Prelude.{is_some-slice_get, ◌≡◌, ℕ, zero, suc, ◌≤◌, Bool, true, nat_lt, nat_le, ◌↔◌, inl, inr, refl, ◌∙◌, ap, subst, arith, List, [], ◌∷◌, length, slice_get, Option, Some, None, option_map, le-leb, ltb-true, eq-eqb, list_all, cases_lt, and_parts, and_from, MOST_ACTORS, MOST_SEGMENTS, COUNTER_END, SegName, Place, SegmentParts, counters_fit, element_in, by_name, count_in, segment_count, ListOf, some_parts_contents, each_segment, slice_get-is_some, numbered_there, Actor, words_fit, Parts, numbered, Presence, place_fits, next_fits, names_fit, numbers_within, record_fits, actor_fits, is_actor, IsNumbered, AreMade, IsWellFormed, world_of_parts, has_segment, indexes_fit, first_flaw, index_end, Content, can_hold, content_fits, segments_named_fit, index_within, subst₂}
 use Rattle.rd_step.proofs.Assembled.{NoFlaw, presence, numbered_below, assembled, lists_right}
 use Rattle.std.proofs.Common.{get_or}
 use Rattle.std.proofs.lemmas.List.Sums.{list_all-from_AllPass}
@@ -23,13 +23,13 @@ each_from : {R : ℕ} (test : SegmentParts R → Bool) (makers : List (ListOf (S
     → ((s : SegName) (x : SegmentParts R) → by_name makers s ≡ Some x → test x ≡ true) → each_segment test makers ≡ true
 each_from test makers h =
     all_from (λ list. list_all test list.items) makers
-    (λ m list at. all_from test list.items (λ n x e. h (record { maker = m; n = n }) x (ap (λ o. by_number o n) at ∙ e)))
+    (λ m list at. all_from test list.items (λ n x e. h (record { maker = m; n = n }) x (ap (λ o. element_in o n) at ∙ e)))
 
 -- How many actors and segments there are
 
 parts_few_actors : (xs : List Actor) → IsNumbered (is_actor (numbered xs)) → length xs ≤ MOST_ACTORS
-parts_few_actors [] by_number = omega arith
-parts_few_actors (x ∷ xs) by_number = by_number.to_most (suc (length xs)) (slice_get-is_some (x ∷ xs) (length xs) (omega arith))
+parts_few_actors [] element_in = omega arith
+parts_few_actors (x ∷ xs) element_in = element_in.to_most (suc (length xs)) (slice_get-is_some (x ∷ xs) (length xs) (omega arith))
 
 -- maker 0's list has just the root
 one_root : {R : ℕ} (p : Parts R) → AreMade (is_actor (numbered p.actors.items)) (has_segment p) → segment_count p.segments.items 0 ≡ 1

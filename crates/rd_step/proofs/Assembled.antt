@@ -1,5 +1,5 @@
 -- Parts without a flaw are a well-formed world.
-use Rattle.rd_step.proofs.Prelude.{is_some-slice_get, ◌≡◌, ℕ, suc, ◌<◌, ◌≤◌, Bool, true, false, not, ◌==◌, ◌&&◌, nat_lt, nat_le, if◌then◌else◌, refl, sym, ◌∙◌, ap, subst, arith, List, length, slice_get, Option, Some, None, is_some, option_map, lt-ltb, leb-true, eqb-true, eq-eqb, list_all, and_parts, and_from, both_ways, slice_get_past, fun_ext, MOST_ACTORS, SLOTS, MOST_SEGMENTS, Cell, SegName, Place, ArrSlot, is_there, SegmentParts, counters_fit, by_number, by_name, count_in, segment_count, Space, contents, ListOf, some_parts_contents, contents_of_parts, each_segment, slice_get-is_some, numbered_there, Actor, words_fit, Parts, Flaw, world_of_fields, numbered, Presence, belongs, place_fits, next_fits, names_fit, numbers_within, actor_fits, is_actor, IsNumbered, AreMade, IsWellFormed, world_of_parts, has_segment, indexes_fit, first_flaw, index_end, parts_contents, numbered_absent, slice_get_cases}
+use Rattle.rd_step.proofs.Prelude.{is_some-slice_get, ◌≡◌, ℕ, suc, ◌<◌, ◌≤◌, Bool, true, false, not, ◌==◌, ◌&&◌, nat_lt, nat_le, if◌then◌else◌, refl, sym, ◌∙◌, ap, subst, arith, List, length, slice_get, Option, Some, None, is_some, option_map, lt-ltb, leb-true, eqb-true, eq-eqb, list_all, and_parts, and_from, both_ways, slice_get_past, fun_ext, MOST_ACTORS, SLOTS, MOST_SEGMENTS, Cell, SegName, Place, ArrSlot, is_there, SegmentParts, counters_fit, element_in, by_name, count_in, segment_count, Space, contents, ListOf, some_parts_contents, contents_of_parts, each_segment, slice_get-is_some, numbered_there, Actor, words_fit, Parts, Flaw, world_of_fields, numbered, Presence, belongs, place_fits, next_fits, names_fit, numbers_within, actor_fits, is_actor, IsNumbered, AreMade, IsWellFormed, world_of_parts, has_segment, indexes_fit, first_flaw, index_end, parts_contents, numbered_absent, slice_get_cases}
 use Rattle.std.proofs.lemmas.List.Sums.{AllPass-from_list_all}
 use Rattle.std.proofs.lemmas.Option.{get_or_from_slice_get, slice_get_within}
 use Rattle.rd_cell.specs.declared.places.Place.TheVariants as place
@@ -40,7 +40,7 @@ all_at : {X : Type 0} (test : X → Bool) (xs : List X) (i : ℕ) (x : X) → li
 all_at test xs i x h k = grind (arith, AllPass-from_list_all test xs h i x, slice_get_within, get_or_from_slice_get)
 
 each_in : {R : ℕ} (test : SegmentParts R → Bool) (makers : List (ListOf (SegmentParts R))) (m n : ℕ) (o : Option (ListOf (SegmentParts R))) (s : SegmentParts R)
-    → each_segment test makers ≡ true → slice_get makers m ≡ o → by_number o n ≡ Some s → test s ≡ true
+    → each_segment test makers ≡ true → slice_get makers m ≡ o → element_in o n ≡ Some s → test s ≡ true
 each_in test makers m n o s h k there = grind (arith, all_at)
 
 -- a test that holds of each segment holds of the one under a name
@@ -62,14 +62,14 @@ pub presence : {R : ℕ} (p : Parts R) → is_there (world_of_parts p).at ≡ ha
 presence p = fun_ext (λ s. there_if (by_name p.segments.items s) (place.Head s) (λ x. refl))
 
 -- the number of a segment that is there is below the length of its list
-pub numbered_below : {R : ℕ} (o : Option (ListOf (SegmentParts R))) (n : ℕ) → is_some (by_number o n) ≡ true → n < count_in o
+pub numbered_below : {R : ℕ} (o : Option (ListOf (SegmentParts R))) (n : ℕ) → is_some (element_in o n) ≡ true → n < count_in o
 numbered_below o n h = grind (arith, both_ways, is_some, numbered_absent)
 
 few_in : {R : ℕ} (makers : List (ListOf (SegmentParts R))) (m : ℕ) (o : Option (ListOf (SegmentParts R))) → list_all (λ list. nat_le (length list.items) MOST_SEGMENTS) makers ≡ true
     → slice_get makers m ≡ o → count_in o ≤ MOST_SEGMENTS
 few_in makers m o h k = grind (arith, leb-true, all_at, nat_le)
 
-has_list : {R : ℕ} (makers : List (ListOf (SegmentParts R))) (m n : ℕ) → is_some (by_number (slice_get makers m) n) ≡ true → m < length makers
+has_list : {R : ℕ} (makers : List (ListOf (SegmentParts R))) (m n : ℕ) → is_some (element_in (slice_get makers m) n) ≡ true → m < length makers
 has_list makers m n h = grind (arith, is_some, slice_get_past)
 
 -- parts without a flaw have the root, and each maker's segments are numbered without a gap

@@ -11,8 +11,8 @@ use Rattle.rd_step.specs.Dependence.{IsFree}
 use Rattle.rd_step.specs.WellFormed.{IsWellFormed}
 use Rattle.rd_cell.specs.declared.refusal.Refusal.TheVariants as refusal
 
--- the steps of e and f commute. One order is e from w to v, then f to u; in the other, f goes
--- first, each step leaves the same entry, and the last world is the same
+-- the steps of e and f commute. In the given order, e's step from w leaves v, and f's then leaves
+-- u; in the other, f goes first, each step leaves the same entry, and the last world is the same
 pub record CommutingSquare (w : World) (e f : Event) (v u : Stepped) : Type 0 where
   pub first : Stepped
   pub goes_first : step w f ≡ Ok first
@@ -24,14 +24,16 @@ pub record CommutingSquare (w : World) (e f : Event) (v u : Stepped) : Type 0 wh
 
 -- e's step, from w to s, can be taken out of its run, which goes on with the events es to r.
 -- Without it, these events leave the same entries and lead to r's world with the old words of e's
--- entry put back, which is well-formed. From there e may go last, with the same entry
+-- entry put back, which is well-formed. From there e may go last, with the same entry, and leads to
+-- r's world
 pub record IsRemovable (w : World) (e : Event) (s : Stepped) (es : List Event) (r : Ran) : Type 0 where
   pub rest : run w es ≡ Ok (record { world = unstep r.world s.entry; entries = r.entries })
   pub again : step (unstep r.world s.entry) e ≡ Ok (record { world = r.world; entry = s.entry })
   pub well_formed : IsWellFormed (unstep r.world s.entry)
 
--- x is the entry of a step in a run that reached the world `now`. The step of `event` in the world
--- `start` left x, and the `later` events, whose entries don't depend on x, led on to `now`
+-- x is the entry of a step in a run that reached the world `now`. The step of `event` in the
+-- well-formed world `start` left x, and the `later` events, whose entries don't depend on x, led on
+-- to `now`
 pub record WasStepped (now : World) (x : Entry) : Type 0 where
   pub start : World
   pub well_formed : IsWellFormed start
@@ -51,8 +53,8 @@ pub record IsTakenOut (now left : World) (x : Entry) (was : WasStepped now x) : 
   pub rest : run was.start was.later ≡ Ok (record { world = left; entries = was.ran.entries })
   pub again : step left was.event ≡ Ok (record { world = now; entry = x })
 
--- the refusals that a step in a well-formed world may meet; `NoSuchPlace`, for a missing place or a
--- content of another kind, is not among them
+-- a step of the model in a well-formed world may meet this refusal: one of these eight, and no
+-- other. `NoSuchPlace`, for a missing place or a content of another kind, is not among them
 abbrev pub IsStepRefusal : Refusal → Type 0
 IsStepRefusal refusal.NoActor = Unit {0}
 IsStepRefusal refusal.NotIdle = Unit {0}
@@ -70,12 +72,13 @@ pub record SuitsContent (at : Contents) (p : Place) (op : Operation) : Type 0 wh
   pub found : operand at p ≡ Some content
   pub suits : effect op content ≡ Err refusal.NoSuchPlace → ⊥
 
--- the event's actor is at different control points in the two worlds
+-- the event's actor is at different control points in the two worlds; this also holds if one of
+-- them has no such actor
 abbrev pub MovesOn : Event → World → World → Type 0
 MovesOn e old new = (a b : Actor) → old.actor e.actor ≡ Some a → new.actor e.actor ≡ Some b → a.pc ≡ b.pc → ⊥
 
 -- only the places that the entry's step wrote changed, all of them covered by the step's place, and
--- the record of the event's actor; no place changed if the step only read
+-- the record of the event's actor; no place changed if the step only read. The rings' size stayed
 pub record ChangesOnly (e : Event) (x : Entry) (old new : World) : Type 0 where
   pub ring : new.ring ≡ old.ring
   pub outside : (q : Place) → some_covers (written x.place x.wrote) q ≡ false → new.at q ≡ old.at q
@@ -83,8 +86,8 @@ pub record ChangesOnly (e : Event) (x : Entry) (old new : World) : Type 0 where
   pub reading : is_nothing x.wrote ≡ true → new.at ≡ old.at
   pub others : (n : ℕ) → (n ≡ e.actor → ⊥) → new.actor n ≡ old.actor n
 
--- the entry's old words are the record of its actor and the content of its place in the world
--- `before`
+-- the entry's old words are the record of its actor and, if it has a place, the content of that
+-- place (`operand`) in the world `before`
 pub record KeepsOldWords (before : World) (x : Entry) : Type 0 where
   pub actor : before.actor x.event.actor ≡ Some x.old_actor
   pub content : (p : Place) → x.place ≡ Some p → operand before.at p ≡ x.old_content

@@ -74,8 +74,8 @@ flaw_number ArrayCounters = 6
 flaw_number ActorNumbers = 7
 flaw_number ActorWords = 8
 
--- why no world is put together from these parts: they have this flaw and none before it, or they
--- have no flaw and memory was refused
+-- why no world is put together from these parts: a flaw is the first that they have, and `NoMemory`
+-- is the cause only if they have none
 abbrev pub RefusesParts : {R : ℕ} → Parts R → Unassembled → Type 0
 RefusesParts p (unassembled.Flaw flaw) = first_flaw p ≡ Some flaw
 RefusesParts p unassembled.NoMemory = first_flaw p ≡ None

@@ -11,7 +11,7 @@ pub use Rattle.rd_actor.specs.Table.{need, after}
 pub use Rattle.rd_step.specs.World.{World}
 pub use Rattle.rd_step.specs.Step.{Stepped, step, unstep}
 pub use Rattle.rd_step.specs.Run.{Ran, run}
-pub use Rattle.rd_step.specs.Dependence.{depends, IsFree, first_dependant, depends_on_any, closure, items_where_false, closure_of, without_closure}
+pub use Rattle.rd_step.specs.Dependence.{depends, IsFree, first_dependant, depends_on_any, closure, items_where_false, closure_entries, without_closure}
 pub use Rattle.rd_step.specs.Lists.{numbered, without}
 pub use Rattle.rd_step.specs.WellFormed.{IsWellFormed}
 pub use Rattle.rd_step.specs.CodeWorld.{model, room, makers_room}

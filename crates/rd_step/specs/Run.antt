@@ -6,7 +6,7 @@ use Rattle.rd_step.specs.declared.entries.Event.{Event}
 use Rattle.rd_step.specs.declared.entries.Entry.{Entry}
 use Rattle.rd_step.specs.Step.{step}
 
--- the last world of a run, and the entry of each of its steps
+-- the last world of a run, and the entries of its steps in their order
 pub record Ran : Type 0 where
   pub world : World
   pub entries : List Entry

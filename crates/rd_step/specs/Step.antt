@@ -21,7 +21,7 @@ abbrev pub with_actor : ℕ → Actor → (ℕ → Option Actor) → ℕ → Opt
 with_actor n a actors m = if m == n then Some a else actors m
 
 -- the outcome of a step: the event's actor had the record a, its access did `did`, and it goes on
--- with the record and the reply in `next`
+-- with the record `next.0` and the reply `next.1`, if there is one
 abbrev pub step_outcome : World → Event → Actor → Performed → Actor × Option OpReply → Stepped
 step_outcome w e a did next = record {
   world = record { ring = w.ring; at = contents_after did w.at; actor = with_actor e.actor next.0 w.actor };
@@ -29,7 +29,8 @@ step_outcome w e a did next = record {
 }
 
 -- the step of an event in a world: the event's actor asks for its one access, which is done at its
--- one place, and goes on with the answer. All other places and actors stay
+-- one place, and goes on with the answer. All other places and actors stay. The step is refused
+-- with `NoActor` if there is no such actor, or else as `need` or `perform` refuses it
 abbrev pub step : World → Event → Result Stepped Refusal
 step w e =
     and_then (ok_or (w.actor e.actor) refusal.NoActor) (λ a.
@@ -44,19 +45,21 @@ pub record IsLast (at : Contents) (s : SegName) : Type 0 where
   pub last : is_there at (record { maker = s.maker; n = s.n + 1 }) ≡ false
 
 -- this old content may be put back: without a place, none; at a place that is there, a content that
--- it can hold; at the whole of its maker's last segment, none, which removes the segment
+-- it can hold; at the whole of an actor's last segment, none, which removes the segment. Nothing
+-- else may
 abbrev pub CanPutBack : Contents → Option Place → Option Content → Type 0
 CanPutBack at None None = Unit {0}
 CanPutBack at (Some p) (Some c) = IsTrue (is_some (operand at p)) × IsTrue (can_hold p c)
 CanPutBack at (Some (place.Whole s)) None = IsLast at s
 CanPutBack at _ _ = ⊥
 
--- the world with this record given back to the actor, and this content, or none, put back at the
--- place
+-- the world with the record a given back to actor n, and the old content `was` put back at the
+-- place o. Without a content, the places that o covers are removed; without a place, no place
+-- changes
 abbrev pub revert : World → ℕ → Actor → Option Place → Option Content → World
 revert w n a o was = record { ring = w.ring; at = restore o was w.at; actor = with_actor n a w.actor }
 
 -- the world with an entry's old words put back: the old record of its actor and the old content of
--- its place
+-- its place, if it has one. A segment that its step made is removed
 abbrev pub unstep : World → Entry → World
 unstep w x = revert w x.event.actor x.old_actor x.place x.old_content

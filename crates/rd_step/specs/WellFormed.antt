@@ -49,7 +49,7 @@ index_within end (content.Idx safe idx) = nat_le idx end
 index_within end _ = true
 
 -- whether a content fits its place, over rings of R cells: the place can hold it, the segment that
--- it names is there, and its index is not past the end
+-- it names, if any, is there, and its index, if it has one, is at most `index_end R`
 abbrev pub content_fits : ℕ → Presence → Place → Content → Bool
 content_fits R there p c = can_hold p c && segments_named_fit there c && index_within (index_end R) c
 
@@ -87,8 +87,8 @@ abbrev pub may_be_there : (ℕ → Bool) → ℕ → ℕ → Bool
 may_be_there is_actor zero n = n == 0
 may_be_there is_actor (suc m) n = is_actor (suc m) && nat_lt n MOST_SEGMENTS
 
--- the root is there, an actor made each other segment, and a maker's segments are numbered without
--- a gap
+-- the root is there, each other segment is one of the first 65,535 of an actor, and a maker's
+-- segments are numbered from 0 without a gap
 pub record AreMade (is_actor : ℕ → Bool) (there : Presence) : Type 0 where
   pub rooted : IsTrue (there root)
   pub makers : (s : SegName) → IsTrue (there s) → IsTrue (may_be_there is_actor s.maker s.n)

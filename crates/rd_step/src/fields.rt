@@ -19,7 +19,7 @@ use rd_segments::Space;
 /// Puts back an old record of one actor and, if a place is given, the old content of that place.
 /// The actor and the place must be there, the content must be of the place's kind, and a counter at
 /// most its end. A place without an old content must be the whole of an actor's last segment, which
-/// is removed. Without a place there must be no content.
+/// is removed and so gives its room back. Without a place there must be no content.
 pub fn revert_fields<const R: usize>(
     space: &mut Space<R>,
     actors: &mut Vec<Actor>,
@@ -43,8 +43,8 @@ pub fn revert_fields<const R: usize>(
 
 /// Puts the old content back at a place, if one is given. The place must be there, the content must
 /// be of its kind, and a counter at most its end. A place without an old content must be the whole
-/// of an actor's last segment, which is removed. Without a place there must be no content, and
-/// nothing changes.
+/// of an actor's last segment, which is removed and so gives its room back. Without a place there
+/// must be no content, and nothing changes.
 fn put_back<const R: usize>(space: &mut Space<R>, place: Option<Place>, content: Option<Content>)
     requires can { CanPutBack (contents space.old) place content }
     requires small { R ≤ MOST_CELLS }

@@ -1,5 +1,5 @@
 //! Why parts make no world: the eight conditions of a well-formed world, in the order in which the
-//! code tests them.
+//! code tests them. The rings have `R` cells, which must be at most 64.
 
 ghost use Rattle.std.specs.Prelude.{◌≡◌, ◌≤◌, nat_le, length};
 ghost use Rattle.std.specs.List.{list_all};

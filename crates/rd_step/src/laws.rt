@@ -7,6 +7,7 @@ ghost use Rattle.rd_actor.specs.declared.actors.Actor.{Actor};
 ghost use Rattle.rd_actor.specs.declared.actors.Act.{Act};
 ghost use Rattle.rd_actor.specs.Table.{need};
 ghost use Rattle.rd_step.specs.World.{World as Model};
+ghost use Rattle.rd_step.specs.declared.entries.Entry.{Entry};
 ghost use Rattle.rd_step.specs.declared.entries.Event.{Event};
 ghost use Rattle.rd_step.specs.declared.parts.Parts.{Parts};
 ghost use Rattle.rd_step.specs.Step.{Stepped, step, unstep};
@@ -24,6 +25,12 @@ ghost use Rattle.rd_step.specs.Laws.{CommutingSquare, IsRemovable, IsStepRefusal
 pub fn independent_steps_commute()
     ensures { (w : Model) (e f : Event) (v u : Stepped) → step w e ≡ Ok v → step v.world f ≡ Ok u
         → depends v.entry u.entry ≡ false → CommutingSquare w e f v u }
+{}
+
+/// Dependence is symmetric.
+#[tactic(auto, using(crate::proofs::Symmetry::depends_symmetric))]
+pub fn dependence_is_symmetric()
+    ensures { (x y : Entry) → depends x y ≡ depends y x }
 {}
 
 /// Putting back the old words that a step's entry keeps gives the whole world before the step, if
@@ -49,8 +56,8 @@ pub fn a_free_step_may_be_taken_out()
         → IsRemovable w e s es r }
 {}
 
-/// Causally equivalent lists of events reach the same world, and leave the same entries in some
-/// order.
+/// Two causally equivalent lists of events, if both run, reach the same world, and leave the same
+/// entries in some order.
 pub fn equivalent_schedules_reach_one_world()
     ensures { (w : Model) (es fs : List Event) (r q : Ran) → run w es ≡ Ok r → run w fs ≡ Ok q
         → IsEquivalent w es fs
@@ -81,7 +88,7 @@ pub fn runs_keep_the_ring()
     ensures { (w : Model) (es : List Event) (r : Ran) → run w es ≡ Ok r → r.world.ring ≡ w.ring }
 {}
 
-/// A well-formed world, whose rings have at least one cell, refuses a step only for these causes:
+/// A well-formed world whose rings have at least one cell refuses a step only for these causes:
 /// there is no such actor, the actor's control point does not take the act, or a counter or a
 /// maker's segments are at their end. It never refuses a step because a place is not there.
 #[tactic(auto, using(crate::proofs::Progress::refused_in_cases))]
@@ -106,8 +113,8 @@ pub fn steps_move_their_actors()
         → MovesOn e w s.world }
 {}
 
-/// A step changes only places that its entry's place covers, and the record of its event's actor. A
-/// step that only read changes no place.
+/// A step changes only the places that it wrote, which its entry's place covers, and the record of
+/// its event's actor. A step that only read changes no place.
 pub fn steps_change_one_place_and_one_actor()
     ensures { (w : Model) (e : Event) (s : Stepped) → step w e ≡ Ok s
         → ChangesOnly e s.entry w s.world }

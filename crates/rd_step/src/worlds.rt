@@ -269,7 +269,7 @@ impl<const R: usize> World<R> {
 
     /// Puts back an old record of one actor and, if a place is given, the old content of that
     /// place. A place without an old content must be the whole of an actor's last segment, which is
-    /// removed. Nothing else changes.
+    /// removed and so gives its room back. Nothing else changes.
     ///
     /// The actor and a given place must be there. A content must be of the place's kind, and a
     /// counter in it at most its end; without a place there must be none. The world so changed must
@@ -317,8 +317,7 @@ impl<const R: usize> World<R> {
     }
 }
 
-/// Whether all of these actors are idle, as they are before their first step and after their last
-/// call is over or undone.
+/// Whether each of these actors has the idle record, which an actor in no call has.
 fn are_idle(actors: &[Actor]) -> bool
     ensures { IsTrue result ↔ All (λ actor. actor ≡ idle) actors.now }
 {

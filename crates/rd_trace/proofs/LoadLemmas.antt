@@ -1,8 +1,13 @@
 -- The result of loading a text.
-use Rattle.rd_trace.proofs.Prelude.{IsErrAnd, ◌≡◌, ◌≤◌, ◌<◌, ◌+◌, ℕ, List, [], ◌∷◌, length, codes, Some, none-some, Result, Ok, Err, sym, ap, ◌∙◌, subst, arith, IsDistinct, Data, World, Mark, book_state, loaded_state, first_mark_fault, Replays, MOST_MARKS, HaveDifferentNames, TraceFault, BadTrace, number_at, Trace, IsEitherVersion, HasValue, AnyBook, any_state, IsTraceText, IsTraceRing, LoadsValue, LoadsTrace, Book, NoMemory}
-use Rattle.std.specs.Prelude.{IsOkAnd, MatchResult}
+use Rattle.rd_trace.proofs.Prelude.{IsErrAnd, ◌≡◌, ◌≤◌, ◌<◌, ◌+◌, ℕ, List, [], ◌∷◌, length, codes, Some, none-some, Result, Ok, Err, sym, ap, ◌∙◌, subst, arith, IsDistinct, Data, World, Mark, book_state, loaded_state, first_mark_fault, Replays, MOST_MARKS, HaveDifferentNames, TraceFault, BadTrace, number_at, Trace, IsEitherVersion, AnyBook, any_state, IsTraceText, IsTraceRing, LoadsValue, LoadsTrace, Book, NoMemory}
+use Rattle.std.specs.Prelude.{IsOkAnd, IsUtf8, MatchResult}
+use Rattle.serde_json.specs.Read.{read}
 use Rattle.rd_trace.proofs.SpellLemmas.{passed_up}
 use Rattle.serde_json.proofs.OnLiterals.{serde_json_on_literals}
+
+-- a text is JSON in UTF-8, and its value is this one
+abbrev pub HasValue : List ℕ → Data → Type 0
+HasValue text d = IsUtf8 text × (read text ≡ Some d)
 
 -- What holds of a session that a value spells
 

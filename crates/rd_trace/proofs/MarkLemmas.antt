@@ -1,5 +1,5 @@
 -- Bookmarks as JSON values.
-use Rattle.rd_trace.proofs.Prelude.{◌≡◌, items_by, ℕ, nat_eq, nat_lt, ◌+◌, ◌<◌, ◌≤◌, true, false, ◌||◌, List, [], ◌∷◌, ◌++◌, map, Bool, length, get_or, take, drop, slice_get, codes, Decides, Option, Some, None, ok_or, option_map, IfSome, Ok, inl, inr, refl, sym, ap, ap₂, ◌∙◌, subst, arith, append_assoc, AllByRecursion, list_any, list_all, IsDistinct, and_parts, or_cases, eqb-true, true≢false, false≢true, same_Some, map_push, take_all, IsDistinct-head, IsDistinct-tail, IsDistinct-push, escape, escape_byte, escape_byte_plain, Data, view, items_view, compact_text, comma_if, MarkName, Event, MOST_MARKS, is_name_byte, is_mark_name, bytes_of, mark_name_eq, HaveDifferentNames, Mark, result_map, Gives, SpellEach, event_of, event_data, SpellsMark, SpellMarks, saved_mark, mark_data, AreAppended, IsMarkAppended, SavedMark, name_and_length, slice_get_within, Value, bytes_eq-Decides}
+use Rattle.rd_trace.proofs.Prelude.{◌≡◌, items_by, ℕ, nat_eq, nat_lt, ◌+◌, ◌<◌, ◌≤◌, true, false, ◌||◌, List, [], ◌∷◌, ◌++◌, map, Bool, length, get_or, take, drop, slice_get, codes, Decides, Option, Some, None, ok_or, option_map, IfSome, Ok, inl, inr, refl, sym, ap, ap₂, ◌∙◌, subst, arith, append_assoc, AllByRecursion, list_any, list_all, IsDistinct, and_parts, or_cases, eqb-true, true≢false, false≢true, same_Some, map_push, take_all, IsDistinct-head, IsDistinct-tail, IsDistinct-push, escape, escape_byte, escape_byte_plain, Data, view, items_view, compact_text, comma_if, MarkName, Event, MOST_MARKS, is_name_byte, is_mark_name, bytes_of, mark_name_eq, HaveDifferentNames, Mark, result_map, Gives, SpellEach, event_of, event_data, SpellsMark, SpellMarksOfBook, saved_mark, mark_data, AreAppended, IsMarkAppended, SavedMark, name_and_length, slice_get_within, Value, bytes_eq-Decides}
 use Rattle.std.specs.Cmp.{IsEquivalence}
 use Rattle.rd_trace.proofs.SpellLemmas.{split_at, take_got, spelled_at, spelled_length, spell_each-more}
 use Rattle.rd_trace.proofs.TextLemmas.{all_kept, items_text-joined, one_more_appended, appended_twice}
@@ -59,13 +59,13 @@ none_read vs marks e = subst (λ (ms : List SavedMark). AreRead vs 0 ms) (sym e)
 
 module _ (vs : List Value) (i : ℕ) (v : Value) (within : i < length vs) (is : v ≡ get_or vs i v) where
   -- if the values of a list spell bookmarks, the value at a position spells one
-  pub mark_here : (ms : List Mark) → SpellMarks (items_view vs) ms → (m : Mark) × SpellsMark (view v) m
+  pub mark_here : (ms : List Mark) → SpellMarksOfBook (items_view vs) ms → (m : Mark) × SpellsMark (view v) m
   mark_here ms k = let here = spelled_at SpellsMark vs i v within is ms k.each in (here.1, here.5)
 
   module _ (marks : List SavedMark) (so_far : AreRead vs i marks) (m : SavedMark) (spells : SpellsMark (view v) (saved_mark m)) where
     -- if the name of the value's bookmark is taken, the list spells no bookmarks with different
     -- names
-    pub name_taken : list_any (λ o. mark_name_eq m.name o.name) marks ≡ true → (ms : List Mark) → SpellMarks (items_view vs) ms → ⊥
+    pub name_taken : list_any (λ o. mark_name_eq m.name o.name) marks ≡ true → (ms : List Mark) → SpellMarksOfBook (items_view vs) ms → ⊥
     name_taken taken ms k =
         taken_twice (take i vs) (drop (i + 1) vs) v (map saved_mark marks) (saved_mark m) so_far.each spells (any_of_map saved_mark (λ o. mark_name_eq m.name o.name) marks ∙ taken) ms
         (subst (λ (xs : List Value). SpellEach SpellsMark (items_view xs) ms) (split_at vs i v within is) k.each) k.names
@@ -75,11 +75,11 @@ module _ (vs : List Value) (i : ℕ) (v : Value) (within : i < length vs) (is : 
     one_more_mark free = grind (arith, spell_each-more, map_push, IsDistinct-push, name_laws, any_of_map)
 
 -- if all values were read, the list spells the bookmarks that were read
-pub all_read : (vs : List Value) (i : ℕ) (marks : List SavedMark) → length vs ≤ i → length vs ≤ MOST_MARKS → AreRead vs i marks → SpellMarks (items_view vs) (map saved_mark marks)
+pub all_read : (vs : List Value) (i : ℕ) (marks : List SavedMark) → length vs ≤ i → length vs ≤ MOST_MARKS → AreRead vs i marks → SpellMarksOfBook (items_view vs) (map saved_mark marks)
 all_read vs i marks past few h = grind (arith, take_all, spelled_length)
 
 -- a list of more values than there may be bookmarks spells none
-pub too_many : (vs : List Value) → MOST_MARKS < length vs → (ms : List Mark) → SpellMarks (items_view vs) ms → ⊥
+pub too_many : (vs : List Value) → MOST_MARKS < length vs → (ms : List Mark) → SpellMarksOfBook (items_view vs) ms → ⊥
 too_many vs many ms h = omega (arith, many, h.few, spelled_length SpellsMark vs ms h.each)
 
 -- ---- lists that are written

@@ -1,13 +1,13 @@
 -- Loading a text has one result, unless memory is refused.
-use Rattle.rd_trace.proofs.Prelude.{◌≡◌, ◌⊎◌, inl, inr, ℕ, ◌+◌, List, [], ◌∷◌, ◌++◌, map, Option, None, option_map, Result, Ok, Err, refl, sym, ap, ap₂, ◌∙◌, subst, subst₂, arith, World, Refusal, Event, Mark, Trace, IsTraceText, loaded_state, spelled_mark, IsSameBook, first_refused, first_mark_fault, trace_fault, IsBookIn, Replays, LoadsTrace, IsSameAnswer, AnyBook, TraceFault, BadTrace, Flawed, TraceMark, TraceStep, LoadsAgain, BookState, IsTextOf, IsTraceRing, option_or, NoMemory}
+use Rattle.rd_trace.proofs.Prelude.{◌≡◌, ◌⊎◌, inl, inr, ℕ, ◌+◌, List, [], ◌∷◌, ◌++◌, map, Option, None, option_map, Result, Ok, Err, refl, sym, ap, ap₂, ◌∙◌, subst, subst₂, arith, World, Refusal, Event, Mark, Trace, IsTraceText, loaded_state, name_bytes_and_events, IsSameBook, first_refused, first_mark_fault, trace_fault, IsBookIn, Replays, LoadsTrace, IsSameAnswer, AnyBook, TraceFault, BadTrace, Flawed, TraceMark, TraceStep, LoadsAgain, BookState, IsTextOf, IsTraceRing, option_or, NoMemory}
 use Rattle.rd_trace.proofs.OneTrace.{seen, same_trace, same_book}
 
 -- bookmarks that are seen as the same have the same fault
-same_mark_fault : (w : World) (n : ℕ) (ms ns : List Mark) → map spelled_mark ms ≡ map spelled_mark ns → first_mark_fault w n ms ≡ first_mark_fault w n ns
+same_mark_fault : (w : World) (n : ℕ) (ms ns : List Mark) → map name_bytes_and_events ms ≡ map name_bytes_and_events ns → first_mark_fault w n ms ≡ first_mark_fault w n ns
 same_mark_fault w n [] [] h = refl
 same_mark_fault w n (m ∷ ms) (k ∷ ns) h =
-    let both : spelled_mark m ≡ spelled_mark k = cc in
-    let later : map spelled_mark ms ≡ map spelled_mark ns = cc in
+    let both : name_bytes_and_events m ≡ name_bytes_and_events k = cc in
+    let later : map name_bytes_and_events ms ≡ map name_bytes_and_events ns = cc in
     ap₂ (λ (es : List Event) (o : Option TraceFault). option_or (option_map (λ (r : ℕ × Refusal). TraceMark (n + 1) r.0 r.1) (first_refused w [] es)) o) (ap (λ (s : List ℕ × List Event). s.1) both) (same_mark_fault w (n + 1) ms ns later)
 same_mark_fault w n _ _ h = absurd (cc)
 

@@ -1,5 +1,5 @@
 -- A text is at most one trace.
-use Rattle.rd_trace.proofs.Prelude.{◌≡◌, ℕ, suc, ◌+◌, ◌≤◌, Bool, not, ◌&&◌, ◌==◌, nat_le, if◌then◌else◌, List, [], ◌∷◌, map, length, slice_get, codes, Option, Some, None, is_some, option_map, Vec, Global, inl, inr, refl, sym, ap, ◌∙◌, subst, arith, length-map, slice_get-map, list_all, Data, get, as_array, read, SegName, ArrSlot, Actor, SLOTS, SegmentParts, ArrayParts, World, MOST_ACTORS, Event, fresh_world, numbered, world_of_parts, first_flaw, indexes_fit, array_fits, Parts, Flaw, bytes_of, Mark, member_count, items_at, Gives, SpellEachAt, elements, event_of, SpellsActor, slot_of, filled_slots, SpellsArray, cell_of, SpellsSegment, SpellsSegmentList, SpellsMark, SpellsParts, SpellsStart, start_world, start_flaw, Start, Trace, IsVersion1, IsVersion2, IsEitherVersion, IsTraceText, loaded_state, spelled_mark, IsSameBook, list_all-map, COUNTER_END, MOST_SEGMENTS, MOST_CELLS, counters_fit, array_contents, by_number, by_name, count_in, segment_count, segments_by, some_parts_contents, contents_by, words_fit, next_fits, names_fit, numbers_within}
+use Rattle.rd_trace.proofs.Prelude.{◌≡◌, ℕ, suc, ◌+◌, ◌≤◌, Bool, not, ◌&&◌, ◌==◌, nat_le, if◌then◌else◌, List, [], ◌∷◌, map, length, slice_get, codes, Option, Some, None, is_some, option_map, Vec, Global, inl, inr, refl, sym, ap, ◌∙◌, subst, arith, length-map, slice_get-map, list_all, Data, get, as_array, read, SegName, ArrSlot, Actor, SLOTS, SegmentParts, ArrayParts, World, MOST_ACTORS, Event, fresh_world, numbered, world_of_parts, first_flaw, indexes_fit, array_fits, Parts, Flaw, bytes_of, Mark, member_count, items_at, Gives, SpellEachAt, elements, event_of, SpellsActor, slot_of, filled_slots, SpellsArray, cell_of, SpellsSegment, SpellsSegmentList, SpellsMark, SpellsParts, SpellsStart, start_world, start_flaw, Start, Trace, IsVersion1, IsVersion2, IsEitherVersion, IsTraceText, loaded_state, name_bytes_and_events, IsSameBook, list_all-map, COUNTER_END, MOST_SEGMENTS, MOST_CELLS, counters_fit, array_contents, element_in, by_name, count_in, segment_count, contents_of_segments, some_parts_contents, contents_with, words_fit, next_fits, names_fit, numbers_within}
 use Rattle.std.proofs.Props.{props}
 use mathlib.Core.HLevel.{is_prop→PathP}
 use Rattle.rd_step.specs.declared.flaws.Flaw.TheVariants.{Makers, PlaceNames, ActorNames, Counters, Indexes, ArrayCounters, ActorNumbers, ActorWords}
@@ -58,7 +58,7 @@ same_segments R d v w h k = same_each_at SpellsSegment (same_segment R) (as_arra
 
 -- ---- what is seen of the makers' lists: their elements
 
-same_list : {X : Type 0} (o p : Option (Vec X Global)) (n : ℕ) → option_map elements o ≡ option_map elements p → (by_number o n ≡ by_number p n) × (count_in o ≡ count_in p)
+same_list : {X : Type 0} (o p : Option (Vec X Global)) (n : ℕ) → option_map elements o ≡ option_map elements p → (element_in o n ≡ element_in p n) × (count_in o ≡ count_in p)
 same_list o p n h = grind arith
 
 module _ {X : Type 0} (vs ws : List (Vec X Global)) (same : map elements vs ≡ map elements ws) where
@@ -104,7 +104,7 @@ same_parts R d p q h k =
       (λ i.
           flaw_by R (actors i) (long i) (roots i) (all (λ l. nat_le (length l) MOST_SEGMENTS) i) (λ s. is_some (names s i))
           (λ test. all (list_all test) i) (qhead i) (qtail i) (slots i)),
-      (λ i. record { ring = R; at = contents_by (segments_by (λ n. some_parts_contents (names n i))) (qhead i) (qtail i) (array_contents (slots i)); actor = numbered (actors i) }),
+      (λ i. record { ring = R; at = contents_with (contents_of_segments (λ n. some_parts_contents (names n i))) (qhead i) (qtail i) (array_contents (slots i)); actor = numbered (actors i) }),
     )
 
 one_start : (R : ℕ) (d : Data) (s r : Start R) → SpellsStart d s → SpellsStart d r → (start_flaw s ≡ start_flaw r) × (start_world s ≡ start_world r)
@@ -117,7 +117,7 @@ one_start R d _ _ h k = absurd (omega (arith, some_same (member_count d) _ _ h.m
 same_events : (key : List ℕ) (d : Data) (es fs : List Event) → SpellEachAt (Gives event_of) key d es → SpellEachAt (Gives event_of) key d fs → es ≡ fs
 same_events key d es fs h k = same_each_at (Gives event_of) (one_given event_of) (items_at key d) es fs h k
 
-same_mark : (d : Data) (m n : Mark) → SpellsMark d m → SpellsMark d n → spelled_mark m ≡ spelled_mark n
+same_mark : (d : Data) (m n : Mark) → SpellsMark d m → SpellsMark d n → name_bytes_and_events m ≡ name_bytes_and_events n
 same_mark d m n h k = λ i. (some_same _ (bytes_of m.name) (bytes_of n.name) h.name k.name i, same_events (codes "events") d m.events n.events h.events k.events i)
 
 -- ---- traces
@@ -131,7 +131,7 @@ pub record Seen : Type 0 where
   pub undone : List Event
 
 abbrev pub seen : {R : ℕ} → Trace R → Seen
-seen t = record { flaw = start_flaw t.start; world = start_world t.start; marks = map spelled_mark t.marks; live = t.live; undone = t.undone }
+seen t = record { flaw = start_flaw t.start; world = start_world t.start; marks = map name_bytes_and_events t.marks; live = t.live; undone = t.undone }
 
 module _ (R : ℕ) (d : Data) (t u : Trace R) where
   same_version1 : IsVersion1 d t → IsVersion1 d u → seen t ≡ seen u
@@ -145,7 +145,7 @@ module _ (R : ℕ) (d : Data) (t u : Trace R) where
   same_version2 h k =
       let at = some_same (get (codes "start") d) h.start.0 k.start.0 h.start.1 k.start.1 in
       let start = one_start R k.start.0 t.start u.start (subst (λ x. SpellsStart x t.start) at h.start.2) k.start.2 in
-      let marks = same_seen_at SpellsMark spelled_mark same_mark (items_at (codes "marks") d) t.marks u.marks (h.marks.0, h.marks.1, h.marks.2.each) (k.marks.0, k.marks.1, k.marks.2.each) in
+      let marks = same_seen_at SpellsMark name_bytes_and_events same_mark (items_at (codes "marks") d) t.marks u.marks (h.marks.0, h.marks.1, h.marks.2.each) (k.marks.0, k.marks.1, k.marks.2.each) in
       let live = same_events (codes "events") d t.live u.live h.live k.live in
       let undone = same_events (codes "undone") d t.undone u.undone h.undone k.undone in
       λ i. record { flaw = start.0 i; world = start.1 i; marks = marks i; live = live i; undone = undone i }

@@ -1,5 +1,5 @@
 -- Replaying events: which ones happen, and which one is refused.
-use Rattle.rd_trace.proofs.Prelude.{common_steps, AllByRecursion, cond-false, IsDistinct-head, IsDistinct-tail, take-append_seam, drop-append_seam, append-nil, length-map, map-append, map_push, take_all, take-append-drop, length-take-le, World, Refusal, Stepped, Ran, run, MOST_STEPS, result_map, Event, State, step_after, with_event, apply, back, MarkName, MOST_MARKS, bytes_of, mark_name_eq, Mark, BookState, events_by_name, mark, CanRun, MarksCanRun, HaveDifferentNames, SavedMark, TraceFault, Flawed, TraceMark, TraceStep, saved_mark, start_world, start_flaw, Trace, loaded_state, session_at, first_refused, first_mark_fault, trace_fault, Replays, RefusesOne, GoesTo, MakesWorld, SetsMarks, le-ltb, ◌≡◌, ◌⊎◌, inl, inr, ℕ, suc, ◌+◌, ◌-◌, ◌<◌, ◌≤◌, if◌then◌else◌, Bool, false, List, [], ◌∷◌, ◌++◌, length, take, drop, get_or, map, Some, None, is_some, Option, option_map, Result, Ok, Err, IsOk, refl, sym, ap, ap₂, ◌∙◌, subst, arith, append_assoc, length-append, ne_eqb, option_or, result_err, at_events, with_marks, with_session, NoMemory, Reply, IsEventAnswer}
+use Rattle.rd_trace.proofs.Prelude.{common_steps, AllByRecursion, cond-false, IsDistinct-head, IsDistinct-tail, take-append_seam, drop-append_seam, append-nil, length-map, map-append, map_push, take_all, take-append-drop, length-take-le, World, Refusal, Stepped, Ran, run, MOST_STEPS, result_map, Event, State, step_after, with_event, apply, back, MarkName, MOST_MARKS, bytes_of, mark_name_eq, Mark, BookState, events_by_name, mark, CanRun, MarksCanRun, HaveDifferentNames, SavedMark, TraceFault, Flawed, TraceMark, TraceStep, saved_mark, start_world, start_flaw, Trace, loaded_state, session_at, first_refused, first_mark_fault, trace_fault, Replays, IsFaultOfEvents, GoesTo, MakesWorld, SetsMarks, le-ltb, ◌≡◌, ◌⊎◌, inl, inr, ℕ, suc, ◌+◌, ◌-◌, ◌<◌, ◌≤◌, if◌then◌else◌, Bool, false, List, [], ◌∷◌, ◌++◌, length, take, drop, get_or, map, Some, None, is_some, Option, option_map, Result, Ok, Err, IsOk, refl, sym, ap, ap₂, ◌∙◌, subst, arith, append_assoc, length-append, ne_eqb, option_or, result_err, at_events, with_marks, with_session, NoMemory, Reply, IsEventAnswer}
 use Rattle.std.proofs.lemmas.Cmp.{nat_list_eq_equiv}
 use Rattle.rd_step.proofs.Equivalence.{ran_through}
 use Rattle.rd_marks.proofs.MarkLemmas.{mark_goes}
@@ -39,9 +39,9 @@ module _ (w : World) where
       let rest = none_refused (b ++ e ∷ []) es (subst (CanRun w) (sym (append_assoc b (e ∷ []) es)) h) in
       ap₂ (then_refused b) here rest
 
-  marks-append : (n : ℕ) (xs ys : List Mark) → first_mark_fault w n (xs ++ ys) ≡ option_or (first_mark_fault w n xs) (first_mark_fault w (n + length xs) ys)
-  marks-append n [] ys = let at : n ≡ n + 0 = omega arith in ap (λ (k : ℕ). first_mark_fault w k ys) at
-  marks-append n (x ∷ xs) ys = let at : n + 1 + length xs ≡ n + suc (length xs) = omega arith in grind (arith, option_or_assoc, marks-append (n + 1) xs ys)
+  first_mark_fault-append : (n : ℕ) (xs ys : List Mark) → first_mark_fault w n (xs ++ ys) ≡ option_or (first_mark_fault w n xs) (first_mark_fault w (n + length xs) ys)
+  first_mark_fault-append n [] ys = let at : n ≡ n + 0 = omega arith in ap (λ (k : ℕ). first_mark_fault w k ys) at
+  first_mark_fault-append n (x ∷ xs) ys = let at : n + 1 + length xs ≡ n + suc (length xs) = omega arith in grind (arith, option_or_assoc, first_mark_fault-append (n + 1) xs ys)
 
   pub no_mark_refused : (n : ℕ) (ms : List Mark) → MarksCanRun w ms → first_mark_fault w n ms ≡ None
   no_mark_refused n [] h = refl
@@ -80,7 +80,7 @@ module _ (old now : BookState) (es : List Event) (i : ℕ) (e : Event) (within :
       ((λ j. record { session = left j; marks = (marks ∙ ap (λ (b : BookState). b.marks) so_far.0) j }), first_refused-at_next [] (Ok after.session) h)
 
   pub one_refused : (n : ℕ) (cause : Refusal) → n ≡ length now.session.live + 1 → (cause ≡ refusal.NoMemory → ⊥) → (cause ≡ refusal.NoMemory) ⊎ (apply now.session e ≡ Err cause)
-      → RefusesOne old.session.start (old.session.live ++ es) (TraceStep n cause)
+      → IsFaultOfEvents old.session.start (old.session.live ++ es) (TraceStep n cause)
   one_refused n cause number other (inl memory) = absurd (other memory)
   one_refused n cause number other (inr h) =
       let live = old.session.live ++ take i es in
@@ -129,7 +129,7 @@ MakesLive old live undone new =
     (new ≡ with_session old (record { start = old.session.start; live = live; undone = undone }))
     × (first_refused old.session.start [] (live ++ undone) ≡ None)
 
-pub live_refused : (w : World) (es fs : List Event) (fault : TraceFault) → RefusesOne w es fault → RefusesOne w (es ++ fs) fault
+pub live_refused : (w : World) (es fs : List Event) (fault : TraceFault) → IsFaultOfEvents w es fault → IsFaultOfEvents w (es ++ fs) fault
 live_refused w es fs fault (inl memory) = inl memory
 live_refused w es fs fault (inr h) = inr (h.0, h.1, first_refused-append w [] es fs ∙ ap (λ (o : Option (ℕ × Refusal)). option_or o (first_refused w es fs)) h.2, h.3)
 
@@ -185,7 +185,7 @@ module _ (old now : BookState) (ms : List SavedMark) (i : ℕ) (m : SavedMark) (
       let w = old.session.start in
       let done = map saved_mark (take i ms) in
       let count : 0 + length done ≡ i = omega (arith, length-map (take i ms) saved_mark, length-take-le i ms (omega arith)) in
-      rw (marks-append w 0 done (saved_mark m ∷ later), so_far.none, count, said)
+      rw (first_mark_fault-append w 0 done (saved_mark m ∷ later), so_far.none, count, said)
 
   pub one_set : (mid after : BookState) → GoesTo now m.events.items mid (Ok tt) → mark mid m.name ≡ Ok after → HasSet old after (map saved_mark (take (i + 1) ms))
   one_set mid after goes made =
@@ -218,7 +218,7 @@ module _ (old now : BookState) (ms : List SavedMark) (i : ℕ) (m : SavedMark) (
 
   -- the fault of making the next bookmark's events live, with its number, is a result of setting
   -- all bookmarks
-  pub mark_refused : (new : BookState) (its : TraceFault) → RefusesOne now.session.start m.events.items its → SetsMarks old (map saved_mark ms) new (Err (mark_fault (i + 1) its))
+  pub mark_refused : (new : BookState) (its : TraceFault) → IsFaultOfEvents now.session.start m.events.items its → SetsMarks old (map saved_mark ms) new (Err (mark_fault (i + 1) its))
   mark_refused new its (inl memory) = inl (ap (mark_fault (i + 1)) memory)
   mark_refused new its (inr h) =
       inr
@@ -256,7 +256,7 @@ module _ {R : ℕ} (t : Trace R) (flawless : start_flaw t.start ≡ None) where
       by_steps p h = grind (arith, fault_of)
 
       -- the fault of making its live and undone events happen is a result of replaying the trace
-      pub no_steps : {B : Type 0} (IsBook : B → Type 0) (fault : TraceFault) → RefusesOne now.session.start (t.live ++ t.undone) fault → Replays IsBook t (Err fault)
+      pub no_steps : {B : Type 0} (IsBook : B → Type 0) (fault : TraceFault) → IsFaultOfEvents now.session.start (t.live ++ t.undone) fault → Replays IsBook t (Err fault)
       no_steps IsBook fault h = grind (arith, by_steps)
 
       -- if all its events happened, the trace has no fault, and the book is the trace's

@@ -1,5 +1,5 @@
 -- Whole sessions as JSON values.
-use Rattle.rd_trace.proofs.Prelude.{◌≡◌, refl, inl, inr, Err, NoMemory, BadTrace, same_Some, ℕ, ◌+◌, ◌<◌, List, [], ◌∷◌, ◌++◌, length, take, get_or, Some, None, Result, Ok, sym, ap, ◌∙◌, arith, length-map, take_more, get_or-map, Data, Entry, BookState, Reads, Gives, SpellEach, items_by, event_of, event_data, SpellsWorld, SpellMarks, mark_data, member_count, Trace, IsVersion1, IsVersion2, IsEitherVersion, loaded_state, saved_trace, book_data, TraceFault, start_flaw, events}
+use Rattle.rd_trace.proofs.Prelude.{◌≡◌, refl, inl, inr, Err, NoMemory, BadTrace, same_Some, ℕ, ◌+◌, ◌<◌, List, [], ◌∷◌, ◌++◌, length, take, get_or, Some, None, Result, Ok, sym, ap, ◌∙◌, arith, length-map, take_more, get_or-map, Data, Entry, BookState, Reads, Gives, SpellEach, items_by, event_of, event_data, SpellsWorld, SpellMarksOfBook, mark_data, member_count, Trace, IsVersion1, IsVersion2, IsEitherVersion, loaded_state, saved_trace, book_data, TraceFault, start_flaw, events}
 use mathlib.Core.Logic.{⊎_elim}
 use Rattle.rd_trace.specs.declared.saved.SavedSession.{SavedSession}
 
@@ -22,7 +22,7 @@ version2_read d six (Err _) h = absurd h
 
 -- the JSON value as which a book is written spells it, if the values of its members spell them
 pub book_spelled : (b : BookState) (start : Data) → SpellsWorld b.session.start start → SpellEach (Gives event_of) (items_by event_data b.session.live) b.session.live
-    → SpellEach (Gives event_of) (items_by event_data b.session.undone) b.session.undone → SpellMarks (items_by mark_data b.marks) b.marks
+    → SpellEach (Gives event_of) (items_by event_data b.session.undone) b.session.undone → SpellMarksOfBook (items_by mark_data b.marks) b.marks
     → (t : Trace b.session.start.ring) × IsVersion2 (book_data start b) t × (start_flaw t.start ≡ None) × (loaded_state t ≡ b)
 book_spelled b start h live undone marks = (
   record { start = h.0; marks = b.marks; live = b.session.live; undone = b.session.undone },

@@ -21,21 +21,23 @@ val_of _ = None
 abbrev pub val_data : Option ℕ → Data
 val_data o = option_map_or (λ x. number (unsigned x)) o null
 
--- the call that a word spells without a number after it; none for any other word
+-- the call that a word spells without a number after it, in the form of `op_of`; none for any other
+-- word
 abbrev pub op_of_word : List ℕ → Option (Option Op)
 op_of_word word =
     if bytes_eq word (codes "deq") then Some (Some op.Deq)
     else if bytes_eq word (codes "adeq") then Some (Some op.ADeq)
     else None
 
--- the call that a word and a number spell; none for any other word
+-- the call that a word and a number spell, in the form of `op_of`; none for any other word
 abbrev pub op_of_word_and_number : List ℕ → ℕ → Option (Option Op)
 op_of_word_and_number word x =
     if bytes_eq word (codes "enq") then Some (Some (op.Enq x))
     else if bytes_eq word (codes "aenq") then Some (Some (op.AEnq x))
     else None
 
--- the call that the items of a list spell: a word, or a word and a number; none if they spell none
+-- the call that the items of a list spell, in the form of `op_of`: a word, or a word and a number;
+-- none if they spell none
 abbrev pub op_of_items : Items → Option (Option Op)
 op_of_items (item word no_items) = option_and_then op_of_word (as_str word)
 op_of_items (item word (item d no_items)) = option_and_then (λ w. option_and_then (op_of_word_and_number w) (whole_number d)) (as_str word)

@@ -20,7 +20,7 @@ pub record SpellsMark (d : Data) (m : Mark) : Type 0 where
 
 -- the JSON values spell these bookmarks, one each; the bookmarks have different names, and there
 -- are no more than a book may have
-pub record SpellMarks (ds : Items) (ms : List Mark) : Type 0 where
+pub record SpellMarksOfBook (ds : Items) (ms : List Mark) : Type 0 where
   pub each : SpellEach SpellsMark ds ms
   pub names : HaveDifferentNames ms
   pub few : length ms ≤ MOST_MARKS
@@ -33,12 +33,8 @@ saved_mark m = record { name = m.name; events = m.events.items }
 abbrev pub saved_marks : Vec SavedMark Global → List Mark
 saved_marks marks = map saved_mark marks.items
 
--- the JSON object of a bookmark, from the values of its events and the bytes of its name
-abbrev pub mark_object : Items → List ℕ → Data
-mark_object events name = object (
-    member (codes "events") (array events)
-    (member (codes "name") (string name) no_members))
-
 -- the JSON value as which a bookmark is written
 abbrev pub mark_data : Mark → Data
-mark_data m = mark_object (items_by event_data m.events) (bytes_of m.name)
+mark_data m = object (
+    member (codes "events") (array (items_by event_data m.events))
+    (member (codes "name") (string (bytes_of m.name)) no_members))

@@ -11,8 +11,9 @@ use Rattle.rd_trace.specs.Starts.{start_world, start_flaw}
 use Rattle.rd_trace.specs.Saved.{Trace, IsTraceText, loaded_state, IsSameBook}
 use Rattle.rd_trace.specs.Traces.{first_refused}
 
--- the fault of loading for the first of these bookmarks with a refused event, at the first such
--- event; none if no event is refused. The bookmarks are numbered from n + 1
+-- the fault of loading for the first of these bookmarks with a refused event: the bookmark's
+-- number, counted from n + 1, and the number, from 1, and the cause of its first such event. None
+-- if no event is refused
 abbrev pub first_mark_fault : World → ℕ → List Mark → Option TraceFault
 first_mark_fault start n [] = None
 first_mark_fault start n (m ∷ ms) =
@@ -20,15 +21,15 @@ first_mark_fault start n (m ∷ ms) =
 
 -- the fault of a trace that has no book, else none. In this order: the first flaw of its start; the
 -- first refused event of the first bookmark that has one; the first refused event of its live
--- events and the undone ones after them
+-- events and the undone ones after them, with its number, from 1, and its cause
 abbrev pub trace_fault : {R : ℕ} → Trace R → Option TraceFault
 trace_fault t =
     option_or (option_map Flawed (start_flaw t.start))
     (option_or (first_mark_fault (start_world t.start) 0 t.marks)
     (option_map (λ refused. TraceStep refused.0 refused.1) (first_refused (start_world t.start) [] (t.live ++ t.undone))))
 
--- the result of replaying a trace: its book, if it has no fault; its fault; or `NoMemory`, only if
--- its start has no flaw
+-- the result of replaying a trace: a book for which `IsBook` holds, if the trace has no fault; its
+-- fault; or `NoMemory`, only if its start has no flaw
 abbrev pub Replays : {R : ℕ} {B : Type 0} → (B → Type 0) → Trace R → Result B TraceFault → Type 0
 Replays IsBook t (Ok book) = (trace_fault t ≡ None) × IsBook book
 Replays IsBook t (Err fault) =

@@ -1,4 +1,5 @@
--- Whole numbers, bits, texts and lists in JSON values. An object of serde_json has each key once.
+-- Whole numbers, bits, texts and lists in JSON values. In a value that serde_json reads, an object
+-- has each key once, and a number from 2^64 on is a float.
 use Rattle.std.specs.Prelude.{ℕ, List, nat_le, if◌then◌else◌, Bool, Option, Some, None, option_map, option_and_then}
 use Rattle.serde_json.specs.Data.{Data, Items}
 use Rattle.serde_json.specs.Events.{members_len}

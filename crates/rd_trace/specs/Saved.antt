@@ -12,14 +12,14 @@ use Rattle.rd_trace.specs.Numbers.{member_count, number_at, items_at}
 use Rattle.rd_trace.specs.Spelled.{Gives, SpellEachAt, items_by}
 use Rattle.rd_trace.specs.Events.{event_of, event_data}
 use Rattle.rd_trace.specs.Starts.{SpellsStart, HasActorCount, IsStartWrittenAs, start_world}
-use Rattle.rd_trace.specs.Bookmarks.{SpellMarks, mark_data, saved_mark}
+use Rattle.rd_trace.specs.Bookmarks.{SpellMarksOfBook, mark_data, saved_mark}
 use Rattle.rd_trace.specs.Traces.{IsTraceRing}
 use Rattle.rd_trace.specs.declared.starts.Start.{Start}
 use Rattle.rd_trace.specs.declared.starts.Start.TheVariants as start
 use Rattle.rd_trace.specs.declared.saved.SavedSession.{SavedSession}
 
--- a session over rings of R cells, as a trace spells it: its start, its bookmarks, its live events
--- and its undone events
+-- a session over rings of R cells, as a trace spells it: its start; its bookmarks and its live
+-- events, in order; and its undone events, the one undone last in front
 pub record Trace (R : ℕ) : Type 0 where
   pub start : Start R
   pub marks : List Mark
@@ -30,7 +30,8 @@ pub record Trace (R : ℕ) : Type 0 where
 abbrev pub saved_trace : {R : ℕ} → SavedSession R → Trace R
 saved_trace s = record { start = s.start; marks = map saved_mark s.marks.items; live = s.events.items; undone = s.undone.items }
 
--- the state of the book that a trace spells: its start, live events, undone events and bookmarks
+-- the state of the book that a trace spells: the world of its start, and its live events, undone
+-- events and bookmarks
 abbrev pub loaded_state : {R : ℕ} → Trace R → BookState
 loaded_state t = record {
   session = record { start = start_world t.start; live = t.live; undone = t.undone };
@@ -39,14 +40,14 @@ loaded_state t = record {
 
 -- a bookmark as a trace spells it: the bytes of its name, and its events. Names with the same bytes
 -- are equal, though their unused room may differ, which no call shows
-abbrev pub spelled_mark : Mark → List ℕ × List Event
-spelled_mark m = (bytes_of m.name, m.events)
+abbrev pub name_bytes_and_events : Mark → List ℕ × List Event
+name_bytes_and_events m = (bytes_of m.name, m.events)
 
 -- two books are the same: they have the same session, and bookmarks with equal names and the same
 -- events in the same order
 pub record IsSameBook (a b : BookState) : Type 0 where
   pub session : a.session ≡ b.session
-  pub marks : map spelled_mark a.marks ≡ map spelled_mark b.marks
+  pub marks : map name_bytes_and_events a.marks ≡ map name_bytes_and_events b.marks
 
 -- a JSON value is a trace of version 1: an object of four members, which are the version, the size
 -- of the rings, the number of actors of the fresh start, and the live events. The trace has no
@@ -67,7 +68,7 @@ pub record IsVersion2 {R : ℕ} (d : Data) (t : Trace R) : Type 0 where
   pub version : number_at (codes "version") d ≡ Some 2
   pub ring : number_at (codes "ring") d ≡ Some R
   pub start : (e : Data) × (get (codes "start") d ≡ Some e) × SpellsStart e t.start
-  pub marks : (ds : Items) × (items_at (codes "marks") d ≡ Some ds) × SpellMarks ds t.marks
+  pub marks : (ds : Items) × (items_at (codes "marks") d ≡ Some ds) × SpellMarksOfBook ds t.marks
   pub live : SpellEachAt (Gives event_of) (codes "events") d t.live
   pub undone : SpellEachAt (Gives event_of) (codes "undone") d t.undone
 
@@ -79,16 +80,12 @@ IsEitherVersion d t = IsVersion1 d t ⊎ IsVersion2 d t
 abbrev pub IsTrace : {R : ℕ} → Data → Trace R → Type 0
 IsTrace {R} d t = IsTraceRing R × IsEitherVersion d t
 
--- a text is JSON in UTF-8, and its value is this one
-abbrev pub HasValue : List ℕ → Data → Type 0
-HasValue text d = IsUtf8 text × (read text ≡ Some d)
-
 -- a text is a trace: it is JSON in UTF-8, and its value is a trace
 abbrev pub IsTraceText : {R : ℕ} → List ℕ → Trace R → Type 0
 IsTraceText text t = IsUtf8 text × (d : Data) × (read text ≡ Some d) × IsTrace d t
 
--- the JSON object of a book, from the values of its events, bookmarks, start and undone events, and
--- from the number of cells of a ring
+-- the JSON object of version 2 of a book, from the values of its live events and bookmarks, the
+-- number of cells of a ring, and the values of its start (`begun`) and its undone events
 abbrev pub book_object : Items → Items → ℕ → Data → Items → Data
 book_object events marks cells begun undone = object (
     member (codes "events") (array events)
@@ -103,6 +100,6 @@ abbrev pub book_data : Data → BookState → Data
 book_data begun b = book_object (items_by event_data b.session.live) (items_by mark_data b.marks) b.session.start.ring begun (items_by event_data b.session.undone)
 
 -- a text is one as which a book may be written: JSON without spaces, its keys in alphabetical
--- order, and a line feed
+-- order, and a line feed after it
 abbrev pub IsWrittenAs : BookState → List ℕ → Type 0
 IsWrittenAs b text = (begun : Data) × IsStartWrittenAs b.session.start begun × (text ≡ compact_text (book_data begun b) ++ 10 ∷ [])

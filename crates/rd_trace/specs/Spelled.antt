@@ -9,19 +9,20 @@ use Rattle.rd_trace.specs.Numbers.{items_at}
 use Rattle.rd_trace.specs.declared.faults.TraceFault.{TraceFault}
 use Rattle.rd_trace.specs.declared.faults.TraceFault.TheVariants.{NoMemory, BadTrace}
 
--- the result of reading a JSON value: a thing, where the value spells what is `seen` of it; or
--- `NoMemory`; or `BadTrace`, if the value spells no such thing
+-- the result of reading a JSON value, where `IsSpelled` holds for just what the value spells: a
+-- thing, if the value spells what `seen` gives for it; or `NoMemory`; or `BadTrace`, if the value
+-- spells nothing of this kind. There is no other fault
 abbrev pub Reads : {V X : Type 0} → (V → X) → (X → Type 0) → Result V TraceFault → Type 0
 Reads seen IsSpelled (Ok v) = IsSpelled (seen v)
 Reads seen IsSpelled (Err NoMemory) = Unit {0}
 Reads {V} {X} seen IsSpelled (Err BadTrace) = (x : X) → IsSpelled x → ⊥
 Reads seen IsSpelled (Err _) = ⊥
 
--- for `Reads`: the thing itself is what is `seen` of it
+-- the `seen` of `Reads` if the value spells the thing itself
 abbrev pub itself : {X : Type 0} → X → X
 itself x = x
 
--- for `Reads`: its elements are what is `seen` of a list
+-- the `seen` of `Reads` if the value spells the elements of a list
 abbrev pub elements : {X : Type 0} → Vec X Global → List X
 elements v = v.items
 

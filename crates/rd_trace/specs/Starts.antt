@@ -29,10 +29,10 @@ pub record SpellsFreshStart (d : Data) (count : ℕ) : Type 0 where
   pub members : member_count d ≡ Some 1
   pub fresh : HasActorCount (codes "fresh") d count
 
--- the start is the parts of a world, or fresh with 1 to 16 actors
-abbrev pub HasActorsInRange : {R : ℕ} → Start R → Type 0
-HasActorsInRange (start.Fresh count) = (1 ≤ count) × (count ≤ MOST_ACTORS)
-HasActorsInRange (start.Parts p) = Unit {0}
+-- if the start is fresh, it has 1 to 16 actors; parts of a world may have any number of actors
+abbrev pub IsFreshCountInRange : {R : ℕ} → Start R → Type 0
+IsFreshCountInRange (start.Fresh count) = (1 ≤ count) × (count ≤ MOST_ACTORS)
+IsFreshCountInRange (start.Parts p) = Unit {0}
 
 -- a JSON value spells parts of a world: it is an object of just five members, one for each of the
 -- parts
@@ -54,8 +54,8 @@ abbrev pub start_world : {R : ℕ} → Start R → World
 start_world {R} (start.Fresh count) = fresh_world R count
 start_world (start.Parts p) = world_of_parts p
 
--- the first condition of a well-formed world that a start fails; none if it fails none, as a fresh
--- start does
+-- the first condition of a well-formed world that the parts of a start fail; none if they meet all,
+-- and for a fresh start
 abbrev pub start_flaw : {R : ℕ} → Start R → Option Flaw
 start_flaw (start.Fresh count) = None
 start_flaw (start.Parts p) = first_flaw p
@@ -81,8 +81,9 @@ parts_object actors slots qhead qtail segments = object (
 abbrev pub parts_data : {R : ℕ} → Parts R → Data
 parts_data p = parts_object (items_by actor_data p.actors.items) (array_data p.array) (segment_name_data p.qhead) (segment_name_data p.qtail) (items_by segment_list_data p.segments.items)
 
--- the start in this world may be written as this JSON value: as a fresh start if the world is
--- fresh, and only then; else as parts of the world that have no flaw
+-- the start in this world may be written as this JSON value: as a fresh start, if the world is the
+-- fresh one of 1 to 16 actors; or, if the world isn't fresh for any number of actors, as parts of
+-- it that have no flaw
 abbrev pub IsStartWrittenAs : World → Data → Type 0
 IsStartWrittenAs w d =
     ((count : ℕ) × (w ≡ fresh_world w.ring count) × (1 ≤ count) × (count ≤ MOST_ACTORS) × (d ≡ fresh_data count))

@@ -17,7 +17,7 @@ use Rattle.rd_trace.specs.Loading.{first_mark_fault, Replays}
 use Rattle.rd_trace.specs.Traces.{first_refused}
 
 -- the result of making the world of a start: its world, if the start has no flaw; the first flaw;
--- or `NoMemory`, only if the start has no flaw
+-- or `NoMemory`, only if the start has no flaw. There is no other fault
 abbrev pub MakesWorld : {R : ℕ} → Start R → Result (CodeWorld R) TraceFault → Type 0
 MakesWorld start (Ok world) = (start_flaw start ≡ None) × (model world ≡ start_world start)
 MakesWorld start (Err NoMemory) = start_flaw start ≡ None
@@ -26,15 +26,16 @@ MakesWorld start (Err _) = ⊥
 
 -- the fault of making these events happen from the start: `NoMemory`, or the `TraceStep` of the
 -- first event that is refused
-abbrev pub RefusesOne : World → List Event → TraceFault → Type 0
-RefusesOne start events fault =
+abbrev pub IsFaultOfEvents : World → List Event → TraceFault → Type 0
+IsFaultOfEvents start events fault =
     (fault ≡ NoMemory) ⊎ ((step : ℕ) × (cause : Refusal) × (first_refused start [] events ≡ Some (step, cause)) × (fault ≡ TraceStep step cause))
 
--- the result of making just these events live, with nothing undone: it was done, and none of them
--- is refused; or the fault of `RefusesOne`
+-- the result of making just these events live, with nothing undone, which takes a book from the
+-- state `old` to `new`: it was done, and none of them is refused; or a fault of `IsFaultOfEvents`, after
+-- which nothing is said of `new`
 abbrev pub GoesTo : BookState → List Event → BookState → Result (Unit {0}) TraceFault → Type 0
 GoesTo old events new (Ok _) = (new ≡ at_events old events) × (first_refused old.session.start [] events ≡ None)
-GoesTo old events new (Err fault) = RefusesOne old.session.start events fault
+GoesTo old events new (Err fault) = IsFaultOfEvents old.session.start events fault
 
 -- the result of loading a JSON value as a trace over rings of R cells: the result of replaying a
 -- trace that it spells; `BadTrace` if it spells none; or `NoMemory`
@@ -43,8 +44,10 @@ LoadsValue d (Err NoMemory) = Unit {0}
 LoadsValue {R} d (Err BadTrace) = (t : Trace R) → IsEitherVersion d t → ⊥
 LoadsValue {R} d result = (t : Trace R) × IsEitherVersion d t × Replays (λ (book : Book R). book_state book ≡ loaded_state t) t result
 
--- the result of setting these bookmarks, each at its events: it was done, and none of their events
--- is refused; or `NoMemory`, or the fault of the first bookmark with a refused event
+-- the result of setting these bookmarks, each at its events, which takes a book from the state
+-- `old` to `new`: the book has just these bookmarks and its old start, and none of their events is
+-- refused; or `NoMemory`, or the fault of the first bookmark with a refused event. Nothing is said
+-- of the events that are then live, or of `new` after a fault
 abbrev pub SetsMarks : BookState → List Mark → BookState → Result (Unit {0}) TraceFault → Type 0
 SetsMarks old marks new (Ok _) =
     (new.marks ≡ marks) × (new.session.start ≡ old.session.start) × (first_mark_fault old.session.start 0 marks ≡ None)

@@ -15,7 +15,7 @@ abbrev pub session_at : World → List Event → State
 session_at start live = record { start = start; live = live; undone = [] }
 
 -- the number and the cause of the first of these events that is refused, after the events `before`
--- happened from this start; the number counts those too. None if no event is refused
+-- happened from this start; the number, from 1, counts those too. None if no event is refused
 abbrev pub first_refused : World → List Event → List Event → Option (ℕ × Refusal)
 first_refused start before [] = None
 first_refused start before (e ∷ es) =

@@ -7,7 +7,7 @@ ghost use Rattle.rd_marks.specs.BookState.{mark_events};
 ghost use Rattle.rd_marks.specs.Rules.{KeepsRules};
 ghost use Rattle.rd_marks.specs.declared.names.MarkName.{MarkName};
 ghost use Rattle.rd_trace.specs.Spelled.{Reads};
-ghost use Rattle.rd_trace.specs.Bookmarks.{SpellMarks, SpellsMark, saved_mark, saved_marks, mark_data};
+ghost use Rattle.rd_trace.specs.Bookmarks.{SpellMarksOfBook, SpellsMark, saved_mark, saved_marks, mark_data};
 ghost use Rattle.rd_trace.specs.Texts.{AreAppended, IsMarkAppended};
 
 use super::events::put_events;
@@ -44,7 +44,7 @@ pub struct SavedMark {
 /// `BadTrace` if a value spells no bookmark, if two bookmarks have one name, or if there are more
 /// than 64; `NoMemory` if memory was refused.
 pub fn marks_in(alloc: Global, list: &Vec<Value>) -> Result<Vec<SavedMark>, TraceFault>
-    ensures { Reads saved_marks (SpellMarks (items_view list.now.items)) result }
+    ensures { Reads saved_marks (SpellMarksOfBook (items_view list.now.items)) result }
 {
     let count = list.len();
     if count > MOST_MARKS {
@@ -85,8 +85,8 @@ fn mark_in(alloc: Global, value: &Value) -> Result<SavedMark, TraceFault>
 }
 
 /// Appends the texts of a book's bookmarks to the text, in order, with commas between them. Fails
-/// only if memory is refused; the text may then end with some of them. Whatever the result, the
-/// book keeps the rules of bookmarks, `KeepsRules`.
+/// only if memory is refused; the text may then end with a beginning of this. Whatever the result,
+/// the book keeps the rules of bookmarks, `KeepsRules`.
 pub fn put_marks<const R: usize>(
     alloc: Global,
     text: &mut String,

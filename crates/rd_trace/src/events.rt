@@ -46,8 +46,8 @@ impl Plain for Event {
     }
 }
 
-/// Appends the texts of events to the text, with commas between them. Fails only if memory is
-/// refused; the text may then end with some of them.
+/// Appends the texts of events to the text, in order, with commas between them. Fails only if
+/// memory is refused; the text may then end with a beginning of this.
 pub fn put_events(text: &mut String, events: &[Event]) -> Result<(), AllocError>
     ensures { OnOk result (AreAppended (Gives event_of) event_data events.now
         (string_bytes text.old) (string_bytes text.new)) }

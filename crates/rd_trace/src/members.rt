@@ -14,8 +14,7 @@ pub fn member_count(value: &Value) -> Option<usize>
     Some(value.as_object()?.len())
 }
 
-/// Returns the whole number at a key of an object; none if it has no whole number from 0 to 2^64 -
-/// 1 there.
+/// Returns the whole number from 0 to 2^64 - 1 at a key of an object; none if it has none there.
 pub fn number_at(value: &Value, key: &str) -> Option<u64>
     ensures { result ≡ number_at key.now (view value.now) }
 {

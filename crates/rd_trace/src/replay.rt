@@ -5,7 +5,7 @@ ghost use Rattle.std.specs.Prelude.{◌≡◌, ◌<◌, ◌≤◌, ◌++◌, [],
 ghost use Rattle.rd_step.specs.Prelude.{MOST_CELLS};
 ghost use Rattle.rd_marks.specs.Book.{book_state};
 ghost use Rattle.rd_marks.specs.NameBytes.{MOST_MARKS};
-ghost use Rattle.rd_trace.specs.Starts.{HasActorsInRange};
+ghost use Rattle.rd_trace.specs.Starts.{IsFreshCountInRange};
 ghost use Rattle.rd_marks.specs.Rules.{CanRun, HaveDifferentNames};
 ghost use Rattle.rd_trace.specs.Bookmarks.{saved_mark};
 ghost use Rattle.rd_trace.specs.Steps.{MakesWorld, GoesTo, SetsMarks};
@@ -24,7 +24,7 @@ use std::alloc::Global;
 pub fn world_of<const R: usize>(alloc: Global, start: Start<R>) -> Result<World<R>, TraceFault>
     requires positive { 1 ≤ R }
     requires small { R ≤ MOST_CELLS }
-    requires counted { HasActorsInRange start }
+    requires counted { IsFreshCountInRange start }
     ensures { MakesWorld start.entry result }
 {
     match start {
@@ -83,7 +83,8 @@ pub fn go_to<const R: usize>(book: &mut Book<R>, events: &[Event]) -> Result<(),
 /// Makes events happen after the live ones, in order. Nothing must be undone in the book, and its
 /// live events must be able to run from its start, as those of every book are. Fails with
 /// `TraceStep` at the first event that is refused, which is numbered after the live events, and
-/// with `NoMemory` if memory is refused. The events before it are then live.
+/// with `NoMemory` if memory is refused. The events before it are then live. With no events it
+/// can't fail.
 pub fn step_all<const R: usize>(book: &mut Book<R>, events: &[Event]) -> Result<(), TraceFault>
     requires through { CanRun (book_state book.old).session.start
         (book_state book.old).session.live }

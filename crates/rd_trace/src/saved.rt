@@ -160,7 +160,7 @@ pub fn trace_text<const R: usize>(alloc: Global, book: &Book<R>) -> Result<Strin
 }
 
 /// Appends the texts of the live events of a session, in order, with commas between them. Fails
-/// only if memory is refused; the text may then end with some of them.
+/// only if memory is refused; the text may then end with a beginning of this.
 fn put_live_events<const R: usize>(
     text: &mut String,
     session: &Session<R>,
@@ -176,8 +176,8 @@ fn put_live_events<const R: usize>(
 }
 
 /// Appends the texts of the undone events of a session, with commas between them, beginning with
-/// the event that was undone last. Fails only if memory is refused; the text may then end with some
-/// of them.
+/// the event that was undone last. Fails only if memory is refused; the text may then end with a
+/// beginning of this.
 fn put_undone_events<const R: usize>(
     text: &mut String,
     session: &Session<R>,

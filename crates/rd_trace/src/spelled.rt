@@ -15,10 +15,10 @@ pub trait Spelled: Sized + Drop {
     /// Whether a JSON value spells a thing.
     ghost spells: { Data → Self → Type 0 };
 
-    /// What a caller of `from_value` must know; by default nothing.
+    /// What must hold when `from_value` is called; by default nothing.
     ghost fits: { Type 0 } = { Unit {0} };
 
-    /// Returns the thing of this kind that a JSON value spells.
+    /// Returns the thing of this kind that a JSON value spells. `fits` must hold.
     ///
     /// # Errors
     ///
@@ -33,10 +33,11 @@ pub trait Plain: Sized + Drop {
     /// Whether a JSON value spells a thing.
     ghost spells: { Data → Self → Type 0 };
 
-    /// What a caller of `in_value` must know; by default nothing.
+    /// What must hold when `in_value` is called; by default nothing.
     ghost fits: { Type 0 } = { Unit {0} };
 
-    /// Returns the thing of this kind that a JSON value spells; none if it spells none.
+    /// Returns the thing of this kind that a JSON value spells; none if it spells none. `fits` must
+    /// hold.
     fn in_value(value: &Value) -> Option<Self>
         requires { fits }
         ensures some { IfSome result (spells (view value.now)) }

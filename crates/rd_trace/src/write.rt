@@ -14,8 +14,8 @@ use std::alloc::Global;
 
 /// Writes a book as a trace of version 2, with a line feed after it: its start, live events, undone
 /// events and bookmarks, and the number of cells of its rings. With rings of 2, 4 or 8 cells,
-/// loading the text gives the same book, unless memory is refused. `load_trace` refuses any other
-/// number. The writer must not have failed before.
+/// loading the text gives the same book, unless memory is refused; `load_trace` rejects a trace
+/// over any other rings. The writer must not have failed before.
 ///
 /// # Errors
 ///

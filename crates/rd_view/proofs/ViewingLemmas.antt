@@ -33,7 +33,7 @@ module _ (R : ℕ) (K : Ghosts (BookWithHistory R) Call (Book R)) (desk : Desk R
   knows_after_chain viewer (c ∷ commands) (answer ∷ answers) p q is chain = let now = chain.1 in let more = knows_after_chain viewer commands answers chain.0 q (now.outcome.same_number ∙ is) chain.2 in (
     more.0,
     (seen chain.0, subst (λ n. SeesAfter (opened_state desk) n (seen p) c answer (seen chain.0)) is now.outcome.has_seen, more.1),
-    (now.waits, more.2),
+    (now.never_busy, more.2),
     ((λ ended. all_ended commands answers chain.0 q (subst (KnowsWords chain.0) ended now.outcome.words) chain.2), more.3),
   )
   knows_after_chain viewer _ _ p q is chain = absurd chain
@@ -70,7 +70,7 @@ module _ (R : ℕ) (K : Ghosts (BookWithHistory R) Call (Book R)) (desk : Desk R
         chain = histories;
         continues = continues;
         calls = ap (map (λ e. e.1)) (own_same n (seen last) (entries history) continues) ∙ chain_adds_calls (opened_state desk) n commands answers [] (seen last) histories;
-        waits = all.2;
+        never_busy = all.2;
         ended = all.3;
       }
 

@@ -21,8 +21,9 @@ desk_line_answer (Err desk.NotRecorded) = Err NotRecorded
 desk_line_answer (Err desk.TicketsEnded) = Err TicketsEnded
 desk_line_answer (Err (desk.Busy words)) = Err (Busy words.next words.served)
 
--- the text for one viewer: its heading, and the answers to its lines; or, if its thread was not
--- started, one line which says that memory was refused
+-- the text for the viewer of this number: its heading, and after it the answers to its lines or, if
+-- its thread was not started (None), the refusal `NoMemory`. `said` has what each of its lines
+-- spells
 abbrev pub viewer_text : ℕ → List ParsedLine → Option (Vec Answer Global) → List ℕ
 viewer_text number said (Some answers) = heading_text (Viewer number) ++ report_of (line_answers said (map desk_line_answer answers.items))
 viewer_text number said None = heading_text (Viewer number) ++ answer_text (Err (Refused refusal.NoMemory))

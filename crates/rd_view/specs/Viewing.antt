@@ -26,8 +26,8 @@ use Rattle.rd_view.specs.Reports.{viewers_text}
 abbrev pub AreParsed : List (Vec ℕ Global) → List (Vec ParsedLine Global) → Type 0
 AreParsed scripts said = AllZip (λ script lines. AllZip Says (lines_of script.items) lines.items) scripts said
 
--- the calls that a history records for these commands and answers: those that the desk did not
--- refuse
+-- the calls that a history records for these commands and answers, taken in pairs up to the end of
+-- the shorter list: those that the desk did not refuse
 abbrev pub recorded_calls : List Command → List Answer → List Call
 recorded_calls (command ∷ commands) (Ok answer ∷ answers) = record { command = command; answer = answer } ∷ recorded_calls commands answers
 recorded_calls (command ∷ commands) (Err refusal ∷ answers) = recorded_calls commands answers
@@ -35,7 +35,7 @@ recorded_calls [] answers = []
 recorded_calls (command ∷ commands) [] = []
 
 -- the fault of a view of which nothing was written: `NoMemory`, or `Busy` with the two words of the
--- lock, which show that a drawn ticket was not finished
+-- lock, `served` below `next`, so that a drawn ticket was not finished. It is never `Write`
 abbrev pub IsBusyOrNoMemory : ViewFault → Type 0
 IsBusyOrNoMemory view.NoMemory = Unit {0}
 IsBusyOrNoMemory view.Write = ⊥
@@ -47,16 +47,17 @@ TicketsStayEnded [] = Unit {0}
 TicketsStayEnded (answer ∷ answers) = (answer ≡ Err TicketsEnded → AllByRecursion (λ later. later ≡ Err TicketsEnded) answers) × TicketsStayEnded answers
 
 module _ (opened : BookState) (history : List (ℕ × Call)) where
-  -- the viewer of this number asked these commands, one after another, and got these answers. In
-  -- `seen` is the history that it has seen at the end; only calls of other viewers come after it.
-  -- The viewer's calls in the history are just those that were recorded, in order. No answer is
-  -- `Busy`, and after `TicketsEnded` there is no other answer
+  -- the viewer of this number asked these commands, one after another, and got these answers, each
+  -- as `SeesAfter` says (`chain`). In `seen` is the history that it has seen at the end; only calls
+  -- of other viewers come after it (`continues`). The viewer's calls in the history are just those
+  -- that were recorded, in order (`calls`). No answer is `Busy` (`never_busy`), and after `TicketsEnded`
+  -- there is no other answer (`ended`)
   pub record AskedAll (viewer : ℕ) (commands : List Command) (answers : List Answer) : Type 0 where
     pub seen : List (ℕ × Call)
     pub chain : IsChain (SeesAfter opened viewer) [] commands answers seen
     pub continues : Continues viewer seen history
     pub calls : map (λ e. e.1) (put_by viewer 1 history) ≡ recorded_calls commands answers
-    pub waits : AllByRecursion (λ answer. IfErr answer IsRefusalOfAsk) answers
+    pub never_busy : AllByRecursion (λ answer. IfErr answer IsRefusalOfAsk) answers
     pub ended : TicketsStayEnded answers
 
   -- the viewer of this number got these answers to its commands, or its thread was not started, and
@@ -94,7 +95,8 @@ module _ (opened : BookState) where
   view_text {history = history} views = viewers_text 1 views.said views.answered (length history)
 
   -- what became of a view of these scripts, by its result: its text was written whole; or the
-  -- writer failed, and took a beginning of it; or nothing was written
+  -- writer failed (`Write`), and took a beginning of it; or nothing was written, at `NoMemory` or
+  -- `Busy`
   abbrev pub ViewsScripts : List (Vec ℕ Global) → Stream → Result History ViewFault → Type 0
   ViewsScripts scripts s (Ok history) = (views : ViewOf scripts (entries history)) × Appends s.before s.after (view_text views) × (s.failed ≡ false)
   ViewsScripts scripts s (Err view.Write) =

@@ -16,7 +16,7 @@ use super::faults::ViewFault;
 use super::reports::text_of_view;
 use rd_desk::{Answer, Desk, DeskPass, History, ask_viewers};
 use rd_marks::{Book, Command};
-use rd_script::{ParsedLine, Sink, commands_in, lines, write_all};
+use rd_script::{ParsedLine, Sink, lines, spelled_commands, write_all};
 use std::alloc::{AllocError, Global};
 use std::sync::Wait;
 use std::thread::Threads;
@@ -116,7 +116,7 @@ fn passes_with_commands<const N: usize>(
 {
     let mut work = Vec::new(alloc);
     for pass in passes {
-        let commands = commands_in(alloc, said[work.len()].as_slice())?;
+        let commands = spelled_commands(alloc, said[work.len()].as_slice())?;
         work.push((pass, commands))?;
     }
     Ok(work)

@@ -3,7 +3,7 @@
 ghost use Rattle.std.specs.Prelude.{◌≡◌, ◌+◌, ◌<◌, ◌≤◌, ◌++◌, ◌∷◌, [], length, take, drop, true, List, Some, IsOk, IfOk, OnOk, OnErr};
 ghost use Rattle.rd_step.specs.declared.entries.Entry.{Entry as SomeEntry};
 ghost use Rattle.rd_step.specs.Lists.{numbered, without};
-ghost use Rattle.rd_depend.specs.Index.{ListKey, IsIndexOf, IsIndex, IsHeld, EndsWith, HasRoomFor, GivesRoom, UsesRoom, HasSameRoom, KeepsRoom, position_count, touches, spare, capacity};
+ghost use Rattle.rd_depend.specs.Index.{ListKey, IsIndexOf, IsIndex, HasEntryAt, EndsWith, HasRoomFor, GivesRoom, UsesRoom, HasSameRoom, KeepsRoom, position_count, is_listed_for, spare, capacity};
 ghost use Rattle.rd_depend.specs.Changes.{Adds, KeepsPositions, entry_keys, IsReadyFor};
 ghost use Rattle.rd_depend.specs.Moved.{moved_to};
 
@@ -177,7 +177,7 @@ impl DependIndex {
     /// The room that it had is free for the entry again. It goes over all lists, and takes no
     /// memory.
     pub fn remove(&mut self, k: u64, entry: &Entry)
-        requires { IsHeld self.old k entry.now }
+        requires { HasEntryAt self.old k entry.now }
         ensures left { (es : List SomeEntry) → IsIndexOf self.old es
             → numbered es k ≡ Some entry.now → IsIndexOf self.new (without es k) }
         ensures room { GivesRoom self.old self.new (entry.now ∷ []) }
@@ -221,14 +221,14 @@ impl DependIndex {
     }
 
     /// Makes room for one more position in each list that is to keep the entry, and returns the
-    /// indices of its keys, which are added if they are missing. `homes` must be those of the
-    /// entry. Fails only if memory is refused, which is asked for only if room is missing; no
-    /// position has changed then, and no room is lost.
+    /// indices of its keys, which are added if they are missing. `homes` must be the entry's keys.
+    /// Fails only if memory is refused, which is asked for only if room is missing; no position has
+    /// changed then, and no room is lost.
     fn reserve(&mut self, entry: &Entry, homes: &EntryKeys) -> Result<Slots, AllocError>
         requires { homes.now ≡ entry_keys entry.now }
         ensures same { KeepsPositions self.old self.new }
         ensures ready { IfOk result (IsReadyFor self.new entry.now homes.now) }
-        ensures succeeds { ((t : ListKey) → touches t entry.now ≡ true → 0 < spare self.old t)
+        ensures succeeds { ((t : ListKey) → is_listed_for t entry.now ≡ true → 0 < spare self.old t)
             → IsOk result }
     {
         let actor = usize::from(entry.event.actor);
@@ -251,7 +251,7 @@ impl DependIndex {
     }
 
     /// Puts the entry at the next position, for which there must be room. There must be fewer than
-    /// `MOST_STEPS` positions, and `homes` and `slots` must be those of the entry.
+    /// `MOST_STEPS` positions. `homes` must be the entry's keys, and `slots` their indices.
     fn put(&mut self, entry: &Entry, homes: &EntryKeys, slots: Slots)
         requires few { position_count self.old < MOST_STEPS }
         requires homes { homes.now ≡ entry_keys entry.now }

@@ -7,7 +7,7 @@ ghost use Rattle.std.specs.Prelude.{◌≡◌, ◌+◌, ◌*◌, ◌<◌};
 ghost use Rattle.std.specs.Hash as fed;
 ghost use Rattle.std.specs.Cmp.{partial_equiv_from_equiv};
 ghost use Rattle.rd_cell.specs.Places.{index_half};
-ghost use Rattle.rd_depend.specs.Keys.{key_eq, key_number, search_key, place_number, packed, key_of_segment, value_key_of_place, whole_key, is_value_written};
+ghost use Rattle.rd_depend.specs.Keys.{key_eq, key_number, search_key, place_number, packed, segment_key_of_place, value_key_of_place, whole_key, is_value_written};
 ghost use Rattle.rd_depend.specs.KeyLaws.{key_equiv, key_number-same};
 
 use rd_cell::{Place, SegName, Wrote};
@@ -43,7 +43,7 @@ impl Key {
     /// Returns the key of the place's segment, also for the whole of a segment; `None` for the
     /// queue's ends and the array.
     pub(crate) fn of_segment(place: Place) -> Option<Key>
-        ensures { result ≡ key_of_segment place }
+        ensures { result ≡ segment_key_of_place place }
     {
         match place {
             Place::Head(name)

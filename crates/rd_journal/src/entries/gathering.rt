@@ -6,16 +6,16 @@
 
 ghost use Rattle.std.specs.Prelude.{◌≡◌, ◌++◌, ◌-◌, ◌<◌, ◌≤◌, [], List, length, take, drop, slice_index_or, vec_capacity};
 ghost use Rattle.rd_step.specs.declared.entries.Entry.{Entry as SomeEntry};
-ghost use Rattle.rd_step.specs.Prelude.{closure_of, without_closure, MOST_STEPS};
+ghost use Rattle.rd_step.specs.Prelude.{closure_entries, without_closure, MOST_STEPS};
 ghost use Rattle.rd_depend.specs.Index.{IsIndexOf, HasRoomFor};
 ghost use Rattle.rd_journal.specs.Numbers.{at_numbers, IsOrder};
 
 use rd_depend::DependIndex;
 use rd_step::Entry;
 
-/// Puts, of the numbers of the first `live` entries, the `k`-th, counted from 1, and those whose
-/// entries depend on its entry, directly or through others, behind the rest. Both parts keep their
-/// order. Returns how long the second part is.
+/// Among the first `live` slot numbers, moves the `k`-th, counted from 1, and those whose entries
+/// depend on its entry, directly or through others, behind the rest. Both parts keep their order.
+/// Returns how long the second part is.
 ///
 /// The order must have each slot's number once, and no other; afterwards this holds again. `k` must
 /// be at least 1 and at most `live`, and `live` at most `MOST_STEPS` and the length of the order.
@@ -23,7 +23,7 @@ use rd_step::Entry;
 /// afterwards. The index must be that of the entries before the `k`-th, with room for the other
 /// live ones; afterwards it is that of the entries before the `k`-th, followed by the second part,
 /// and keeps its room for all others.
-pub(crate) fn gather(
+pub(crate) fn move_closure_last(
     slots: &[Entry],
     order: &mut Vec<u32>,
     gathered: &mut Vec<u32>,
@@ -43,11 +43,11 @@ pub(crate) fn gather(
     requires room { HasRoomFor index.old (drop (k - 1)
         (take live (at_numbers slots.now order.old.items))) }
     ensures ordered { IsOrder (length slots.now) order.new.items }
-    ensures count { result ≡ length (closure_of
+    ensures count { result ≡ length (closure_entries
         (take live (at_numbers slots.now order.old.items)) k) }
     ensures moved { take live (at_numbers slots.now order.new.items)
         ≡ without_closure (take live (at_numbers slots.now order.old.items)) k
-        ++ closure_of (take live (at_numbers slots.now order.old.items)) k }
+        ++ closure_entries (take live (at_numbers slots.now order.old.items)) k }
     ensures behind { drop live (at_numbers slots.now order.new.items)
         ≡ drop live (at_numbers slots.now order.old.items) }
     ensures order { vec_capacity order.new ≡ vec_capacity order.old }
@@ -55,7 +55,7 @@ pub(crate) fn gather(
     ensures place { vec_capacity gathered.new ≡ vec_capacity gathered.old }
     ensures index { IsIndexOf index.new (take (k - 1)
         (take live (at_numbers slots.now order.old.items))
-        ++ closure_of (take live (at_numbers slots.now order.old.items)) k) }
+        ++ closure_entries (take live (at_numbers slots.now order.old.items)) k) }
     ensures room { (rest : List SomeEntry)
         → HasRoomFor index.old (drop (k - 1) (take live (at_numbers slots.now order.old.items))
         ++ rest)

@@ -12,7 +12,8 @@ impl<const R: usize> Session<R> {
     ghost use Rattle.rd_journal.specs.Sessions.{journal, state, GoesAlongTrack};
 
     /// Undoes the last `n` live steps, the last one first, each by the old record and the old
-    /// content in its entry. At least `n` steps must be live.
+    /// content in its entry. In their order they become the front of the undone steps. At least `n`
+    /// steps must be live.
     pub(super) fn undo_last(&mut self, n: u64)
         requires enough { n ≤ length (journal self.old).live }
         ensures entries { IsMovedBack n (journal self.old) (journal self.new) }

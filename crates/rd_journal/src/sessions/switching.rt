@@ -5,7 +5,7 @@ ghost use Rattle.std.specs.Prelude.{◌≡◌, ◌++◌, ◌+◌, ◌-◌, ◌<�
 ghost use Rattle.rd_step.specs.Prelude.{model, room as world_room};
 ghost use Rattle.rd_journal.specs.Journal.{events, IsRunFrom};
 ghost use Rattle.rd_journal.specs.Moves.{IsSwitched};
-ghost use Rattle.rd_journal.specs.Room.{room_returned_by, room_after_undoing, HasRoomForActors, LacksRoom, LacksRoomForMakings, LacksIndexRoom};
+ghost use Rattle.rd_journal.specs.Room.{room_returned_by, room_after_undoing, ActorsHaveRoom, LacksRoomToSwitch, LacksRoomForMakings, LacksIndexRoom};
 ghost use Rattle.rd_journal.specs.State.{switch};
 
 use super::super::entry_list::EntryList;
@@ -21,20 +21,20 @@ impl<const R: usize> Session<R> {
 
     /// Makes room for the given entries after the first `kept` live ones, and for the makings among
     /// them once the other live steps are undone. At least `kept` steps must be live, and at most
-    /// `MOST_STEPS` may be kept or given. Memory is asked for only if room is missing. The steps
-    /// and the world stay as they are.
+    /// `MOST_STEPS` may be kept and given together. Memory is asked for only if room is missing. The
+    /// steps and the world stay as they are.
     ///
     /// # Errors
     ///
-    /// `NoMemory` if memory is refused.
+    /// `NoMemory` if memory is refused, which never happens if no entry is given.
     pub(super) fn make_room_to_switch(&mut self, kept: u64, given: &[Entry]) -> Result<(), Refusal>
         requires within { kept ≤ length (journal self.old).live }
         requires few { kept + length given.now ≤ MOST_STEPS }
         ensures ok { OnOk result (kept + length given.now ≤ capacity self.new) }
-        ensures makings { OnOk result (HasRoomForActors (journal self.new).world given.now
+        ensures makings { OnOk result (ActorsHaveRoom (journal self.new).world given.now
             (room_after_undoing (drop kept (journal self.new).live) (room self.new))) }
         ensures err { IfErr result (λ refusal. (refusal ≡ Refusal.NoMemory)
-            × LacksRoom kept (journal self.old) given.now (capacity self.old) (room self.old)
+            × LacksRoomToSwitch kept (journal self.old) given.now (capacity self.old) (room self.old)
             (index self.old)) }
         ensures succeeds { given.now ≡ [] → IsOk result }
         ensures capacity { kept + length given.now ≤ capacity self.old
@@ -64,7 +64,7 @@ impl<const R: usize> Session<R> {
         requires run { IsRunFrom (journal self.old).start
             (take n (journal self.old).live ++ given.now) }
         requires capacity { n + length given.now ≤ capacity self.old }
-        requires makings { HasRoomForActors (journal self.old).world given.now
+        requires makings { ActorsHaveRoom (journal self.old).world given.now
             (room_after_undoing (drop n (journal self.old).live) (room self.old)) }
         ensures entries { OnOk result (IsSwitched n given.now (journal self.old)
             (journal self.new)) }
@@ -91,13 +91,14 @@ impl<const R: usize> Session<R> {
 ///
 /// # Errors
 ///
-/// `NoMemory` if memory is refused. Room that was made for some actors stays.
+/// `NoMemory` if memory is refused, which never happens if no entry is given. Room that was made
+/// for some actors stays.
 fn make_room_for_makings<const R: usize>(
     world: &mut World<R>,
     dropped: &EntryList,
     given: &[Entry],
 ) -> Result<(), Refusal>
-    ensures ok { OnOk result (HasRoomForActors (model world.new) given.now
+    ensures ok { OnOk result (ActorsHaveRoom (model world.new) given.now
         (room_after_undoing dropped.now (world_room world.new))) }
     ensures err { IfErr result (λ refusal. (refusal ≡ Refusal.NoMemory)
         × LacksRoomForMakings given.now (room_after_undoing dropped.now (world_room world.old))) }

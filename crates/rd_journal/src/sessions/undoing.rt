@@ -13,7 +13,8 @@ impl<const R: usize> Session<R> {
     ghost use Rattle.rd_journal.specs.Sessions.{journal, capacity};
 
     /// Undoes the `k`-th live step alone, counted from 1, by the old record and the old content in
-    /// its entry. There must be such a step, and no later live step may depend on it.
+    /// its entry. The step becomes the front of the undone ones. There must be such a step, and no
+    /// later live step may depend on it.
     pub(super) fn undo_alone(&mut self, k: u64)
         requires some { 1 ≤ k }
         requires position { k ≤ length (journal self.old).live }
@@ -29,8 +30,8 @@ impl<const R: usize> Session<R> {
     }
 
     /// Undoes the `k`-th live step, counted from 1, and all later ones that depend on it, directly
-    /// or through others. If no later live step depends on it, it is undone alone. There must be a
-    /// `k`-th live step.
+    /// or through others. In their order they become the front of the undone steps. If no later
+    /// live step depends on the `k`-th, it is undone alone. There must be a `k`-th live step.
     pub(super) fn roll_back(&mut self, k: u64)
         requires some { 1 ≤ k }
         requires position { k ≤ length (journal self.old).live }
@@ -45,11 +46,12 @@ impl<const R: usize> Session<R> {
     }
 
     /// Undoes the `k`-th live step, counted from 1, and all later ones that depend on it, directly
-    /// or through others. There must be a `k`-th live step. The entries of these steps are first
-    /// moved behind the other live ones, none of which depends on them. While they are gathered,
-    /// the index is that of the entries before the `k`-th and of those gathered so far, so it shows
-    /// whether the next one depends on one of these. Then all entries from the `k`-th position on
-    /// are put into the index again, in their new order.
+    /// or through others. In their order they become the front of the undone steps. There must be a
+    /// `k`-th live step. The entries of these steps are first moved behind the other live ones,
+    /// none of which depends on them. While they are gathered, the index is that of the entries
+    /// before the `k`-th and of those gathered so far, so it shows whether the next one depends on
+    /// one of these. Then all entries from the `k`-th position on are put into the index again, in
+    /// their new order.
     fn undo_closure(&mut self, k: u64)
         requires some { 1 ≤ k }
         requires position { k ≤ length (journal self.old).live }

@@ -3,7 +3,7 @@
 ghost use Rattle.std.specs.Prelude.{◌≡◌, ◌⊎◌, [], IsOk, OnOk, IfErr, OnErr};
 ghost use Rattle.rd_depend.specs.Beginnings.{Begins};
 ghost use Rattle.rd_journal.specs.Journal.{events};
-ghost use Rattle.rd_journal.specs.Sessions.{state, track, journal, LacksRoomFor};
+ghost use Rattle.rd_journal.specs.Sessions.{state, track, journal, LacksRoomForEvents};
 ghost use Rattle.rd_marks.specs.BookmarksFields.{AreEntriesOfRun};
 ghost use Rattle.rd_marks.specs.Stretches.{entries_at, IsWithin, AreInPieces};
 
@@ -16,11 +16,11 @@ use std::alloc::Global;
 impl Bookmarks {
     ghost use Rattle.rd_marks.specs.Bookmarks.{named_entries_in, stretches_in, here_entries};
 
-    /// Makes the steps of a node of these bookmarks the live ones, and leaves no undone step. The
-    /// node's entries must be those of a run from the session's start, and the events of `here`
-    /// must begin the session's track. If the session's track is known to have these steps, the
-    /// session moves along it. Otherwise it keeps the live steps with which both lists begin, and
-    /// makes the rest of the node's steps again.
+    /// Makes the steps of a node the live ones, and leaves no undone step. The stretches must have
+    /// the node's entries, at most `MOST_STEPS`, which must be those of a run from the session's
+    /// start. The events of `here` must begin the session's track. If the session's track is known
+    /// to have these steps, the session moves along it. Otherwise it keeps the live steps with
+    /// which both lists begin, and makes the rest of the node's steps again.
     ///
     /// # Errors
     ///
@@ -47,7 +47,7 @@ impl Bookmarks {
         ensures lists { named_entries_in self.new ≡ named_entries_in self.old }
         ensures stands { Begins (events (here_entries self.new)) (track session.new) }
         ensures err { IfErr result (λ refusal. (refusal ≡ Refusal.NoMemory)
-            × (LacksRoomFor session.old (events (entries_at (stretches_in self.old) node))
+            × (LacksRoomForEvents session.old (events (entries_at (stretches_in self.old) node))
             ⊎ AreInPieces (stretches_in self.old) node)) }
         ensures succeeds { Begins (events (entries_at (stretches_in self.old) node))
             (state session.old).live → IsOk result }
@@ -64,10 +64,11 @@ impl Bookmarks {
         Ok(())
     }
 
-    /// Makes the steps of a node of these bookmarks the live ones, and leaves no undone step. It
-    /// keeps the live steps with which both lists begin, and makes the rest of the node's steps
-    /// again. The node's entries must be those of a run from the session's start. The search for
-    /// the kept steps starts at `here`, whose events must begin the session's track.
+    /// Makes the steps of a node the live ones, and leaves no undone step. It keeps the live steps
+    /// with which both lists begin, and makes the rest of the node's steps again. The stretches
+    /// must have the node's entries, at most `MOST_STEPS`, which must be those of a run from the
+    /// session's start. The search for the kept steps starts at `here`, whose events must begin the
+    /// session's track.
     ///
     /// # Errors
     ///
@@ -91,7 +92,7 @@ impl Bookmarks {
               undone = [];
             }) }
         ensures err { IfErr result (λ refusal. (refusal ≡ Refusal.NoMemory)
-            × (LacksRoomFor session.old (events (entries_at (stretches_in self.now) node))
+            × (LacksRoomForEvents session.old (events (entries_at (stretches_in self.now) node))
             ⊎ AreInPieces (stretches_in self.now) node)) }
         ensures succeeds { Begins (events (entries_at (stretches_in self.now) node))
             (state session.old).live → IsOk result }

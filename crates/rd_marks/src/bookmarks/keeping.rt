@@ -14,9 +14,9 @@ use super::super::names::MarkName;
 use super::super::stretches::{Grown, Node, Shift, Stretches};
 use indexmap::IndexMap;
 
-/// Adds a bookmark of this name, which none may have, at the end of the list, in room that was made
-/// before. The nodes of the others are renumbered as the stretches were; such a node must have a
-/// stretch number below 2^64 - 1 if it has entries.
+/// Adds a bookmark of this name, which none may have, at the end of the list. There must be room
+/// for its name. Its entries are those of `grown.node`. The nodes of the others are renumbered as
+/// `grown.shift` says; such a node must have a stretch number below 2^64 - 1 if it has entries.
 pub(super) fn add_bookmark(names: &mut IndexMap<MarkName, Node>, name: MarkName, grown: Grown)
     requires new { lookup (mark_name_eq name) names.old.entries ≡ None }
     requires room { 0 < spare names.old }

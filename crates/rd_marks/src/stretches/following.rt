@@ -53,8 +53,8 @@ impl Stretches {
     }
 }
 
-/// Returns the node of the first `number` entries of stretch `i`, or `at` if that has as many. It
-/// must not have more.
+/// Returns the node of the first `number` entries of stretch `i`'s list, or `at` if it has as many.
+/// `at` must not have more.
 fn deeper_node(at: Node, i: usize, number: usize) -> Node
     requires { at.number ≤ number }
     ensures more { at.number < number → result ≡ record { stretch = i; number = number } }

@@ -10,7 +10,19 @@ ghost use Rattle.rd_script.specs.Reading.{IsFaultOfNames, ReadsName};
 use super::numbers::{u8_in, u64_in};
 use super::words::is_word;
 use crate::faults::LineFault;
-use rd_marks::MarkName;
+use rd_marks::{Command, MarkName};
+
+/// Returns this command, or `None` if there are words after its keyword.
+pub fn without_arguments(words: &[&[u8]], command: Command) -> Option<Command>
+    ensures some { IfSome result (λ c. (c ≡ command) × (map (λ word. word.now) words.now ≡ [])) }
+    ensures none { IfNone result (map (λ word. word.now) words.now ≢ []) }
+{
+    if words.is_empty() {
+        Some(command)
+    } else {
+        None
+    }
+}
 
 /// Returns the number from 0 to 255 that the only word spells. `None` if there isn't exactly one
 /// word, or if it spells no such number.

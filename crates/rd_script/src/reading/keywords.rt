@@ -1,13 +1,13 @@
 //! Keywords: the first word of a line determines which kind of command the line spells, and how the
 //! words after it are read. Also the forms of lines, as a help text lists them.
 
-ghost use Rattle.std.specs.Prelude.{◌≡◌, ◌≢◌, ◌≤◌, [], length, map, IfSome, IfNone};
+ghost use Rattle.std.specs.Prelude.{◌≡◌, ◌≢◌, ◌≤◌, length, map, IfSome, IfNone};
 ghost use Rattle.rd_script.specs.declared.reading.keywords.Keyword.{Keyword as Word};
 ghost use Rattle.rd_script.specs.Grammar.{keyword_text, keyword_of_search};
-ghost use Rattle.rd_script.specs.Reading.{ReadsCommand, ReadsNameless};
+ghost use Rattle.rd_script.specs.Reading.{ReadsCommand, ReadsCommandWithoutName};
 
 use super::arguments::{
-    actor_and_choice, actor_and_value, only_name, only_u8, only_u64, two_names,
+    actor_and_choice, actor_and_value, only_name, only_u8, only_u64, two_names, without_arguments,
 };
 use super::places::place_in;
 use crate::faults::LineFault;
@@ -177,7 +177,7 @@ impl Keyword {
     /// Returns the command that the keyword and the words after it spell, if names of bookmarks
     /// don't follow it. `None` if they do, or if the words spell no command.
     fn command_without_name(self, words: &[&[u8]]) -> Option<Command>
-        ensures { ReadsNameless self (map (λ word. word.now) words.now) result }
+        ensures { ReadsCommandWithoutName self (map (λ word. word.now) words.now) result }
     {
         Some(match self {
             Keyword::Go => Command::Go(only_u8(words)?),
@@ -211,17 +211,5 @@ impl Keyword {
             Keyword::Len => without_arguments(words, Command::Len)?,
             Keyword::Mark | Keyword::Drop | Keyword::Goto | Keyword::Same => return None,
         })
-    }
-}
-
-/// Returns this command, or `None` if there are words after its keyword.
-fn without_arguments(words: &[&[u8]], command: Command) -> Option<Command>
-    ensures some { IfSome result (λ c. (c ≡ command) × (map (λ word. word.now) words.now ≡ [])) }
-    ensures none { IfNone result (map (λ word. word.now) words.now ≢ []) }
-{
-    if words.is_empty() {
-        Some(command)
-    } else {
-        None
     }
 }

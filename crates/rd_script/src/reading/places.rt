@@ -4,7 +4,7 @@
 ghost use Rattle.std.specs.Prelude.{◌≡◌, ◌≢◌, ◌<◌, [], map, IfSome, IfNone};
 ghost use Rattle.rd_script.specs.declared.reading.places.PlaceKind.{PlaceKind as Kind};
 ghost use Rattle.rd_script.specs.Grammar.{kind_text};
-ghost use Rattle.rd_script.specs.Reading.{ReadsPlace, ReadsKind};
+ghost use Rattle.rd_script.specs.Reading.{ReadsPlace, ReadsPlaceOfKind};
 
 use super::numbers::{segment_name_in, u8_in};
 use rd_cell::Place;
@@ -88,10 +88,10 @@ impl PlaceKind {
         }
     }
 
-    /// Returns the place of this kind that the words after the kind name, or `None` if they name
-    /// none.
+    /// Returns the place of this kind that these words, which follow the kind, spell; `None` if
+    /// they spell none.
     fn place(self, words: &[&[u8]]) -> Option<Place>
-        ensures { ReadsKind self (map (λ word. word.now) words.now) result }
+        ensures { ReadsPlaceOfKind self (map (λ word. word.now) words.now) result }
     {
         Some(match (self, words) {
             (PlaceKind::QHead, []) => Place::QHead,

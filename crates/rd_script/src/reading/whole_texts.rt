@@ -38,7 +38,7 @@ pub fn lines(alloc: Global, text: &[u8]) -> Result<Vec<ParsedLine>, Refusal>
 }
 
 /// Returns the commands among what lines spell, in their order. Fails only if memory is refused.
-pub fn commands_in(alloc: Global, said: &[ParsedLine]) -> Result<Vec<Command>, AllocError>
+pub fn spelled_commands(alloc: Global, said: &[ParsedLine]) -> Result<Vec<Command>, AllocError>
     ensures { IfOk result (λ commands. commands.items ≡ commands_of said.now) }
 {
     let mut commands = Vec::new(alloc);

@@ -1,7 +1,7 @@
 //! The words of an actor in a reply. Each part after the call begins with a space.
 
 ghost use Rattle.rd_script.specs.Puts.{PutsUpTo};
-ghost use Rattle.rd_script.specs.Actors.{op_words, point_and_call_words, segment_words, counter_words, cell_read_and_pass_words, actor_words};
+ghost use Rattle.rd_script.specs.Actors.{op_words, point_and_call_words, crq_new_and_next_words, counter_words, cell_read_and_pass_words, actor_words};
 
 use super::contents::{put_segment_name, put_value};
 use super::numbers::{bit_number, put_words_and_number};
@@ -28,9 +28,9 @@ fn put_point_and_call(text: &mut Text, actor: &Actor)
     put_op(text, actor.op);
 }
 
-/// Appends to the text the segments in an actor's words: crq, new and next.
+/// Appends to the text the segments in an actor's record: crq, new and next.
 fn put_segments(text: &mut Text, actor: &Actor)
-    ensures { PutsUpTo 139 text.old.items text.new.items (segment_words actor.now) }
+    ensures { PutsUpTo 139 text.old.items text.new.items (crq_new_and_next_words actor.now) }
 {
     put(text, b" crq ");
     put_segment_name(text, actor.crq);
@@ -40,7 +40,7 @@ fn put_segments(text: &mut Text, actor: &Actor)
     put_segment_name(text, actor.next);
 }
 
-/// Appends to the text the counters in an actor's words, t and h, and its closed bit.
+/// Appends to the text the counters in an actor's record, t and h, and its closed bit.
 fn put_counters(text: &mut Text, actor: &Actor)
     ensures { PutsUpTo 74 text.old.items text.new.items (counter_words actor.now) }
 {

@@ -1,5 +1,5 @@
 //! Numbers, bits and choices in a text. A number is written as decimal digits without leading
-//! zeros.
+//! zeros. What each `put_..` function does without room is in `writing.rt`.
 
 ghost use Rattle.std.specs.Prelude.{◌≡◌, ◌≤◌, ◌++◌, length};
 ghost use Rattle.std.specs.Fmt.{decimal};

@@ -39,7 +39,7 @@ pub fn put_place(text: &mut Text, place: Place)
     }
 }
 
-/// Appends to the text these words, and a segment's name after them.
+/// Appends to the text these words and a segment's name, with no space between them.
 fn put_words_and_name(text: &mut Text, words: &[u8], name: SegName)
     ensures words { Puts text.old.items text.new.items (words.now ++ segment_name_words name) }
     ensures len { length (segment_name_words name) ≤ 41 }

@@ -2,7 +2,7 @@
 
 ghost use Rattle.std.specs.Prelude.{◌≡◌, ◌≤◌, length};
 ghost use Rattle.rd_script.specs.Puts.{PutsUpTo};
-ghost use Rattle.rd_script.specs.Refusals.{refusal_name, refusal_words, fault_name, stop_name, trace_step_words, trace_mark_words, busy_words, any_refusal_words};
+ghost use Rattle.rd_script.specs.Refusals.{refusal_name, refusal_words, line_fault_name, script_fault_name, trace_step_words, trace_mark_words, busy_words, any_refusal_words};
 
 use super::numbers::{put_spaced_number, put_words_and_number};
 use super::texts::{Text, put};
@@ -16,8 +16,8 @@ pub fn put_any_refusal(text: &mut Text, refusal: &AnyRefusal)
 {
     match *refusal {
         AnyRefusal::Refused(refusal) => put_refusal(text, refusal),
-        AnyRefusal::Unread(fault) => put(text, fault_name(fault)),
-        AnyRefusal::Stopped(fault) => put(text, stop_name(fault)),
+        AnyRefusal::Unread(fault) => put(text, line_fault_name(fault)),
+        AnyRefusal::Stopped(fault) => put(text, script_fault_name(fault)),
         AnyRefusal::Flawed(flaw) => put_words_and_number(
             text,
             b"26 Flaw",
@@ -80,8 +80,8 @@ fn put_refusal(text: &mut Text, refusal: Refusal)
 }
 
 /// Returns the number and the name of the fault of a line.
-fn fault_name(fault: LineFault) -> &'static [u8]
-    ensures name { result.now ≡ fault_name fault }
+fn line_fault_name(fault: LineFault) -> &'static [u8]
+    ensures name { result.now ≡ line_fault_name fault }
     ensures len { length result.now ≤ 17 }
 {
     match fault {
@@ -92,8 +92,8 @@ fn fault_name(fault: LineFault) -> &'static [u8]
 }
 
 /// Returns the number and the name of the fault that stopped a run.
-fn stop_name(fault: ScriptFault) -> &'static [u8]
-    ensures name { result.now ≡ stop_name fault }
+fn script_fault_name(fault: ScriptFault) -> &'static [u8]
+    ensures name { result.now ≡ script_fault_name fault }
     ensures len { length result.now ≤ 17 }
 {
     match fault {

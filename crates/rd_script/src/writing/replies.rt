@@ -95,8 +95,7 @@ fn put_step_number(text: &mut Text, step: Option<u64>)
     }
 }
 
-/// Appends to the text this word, a space and a number, or `none` in its place if there is no
-/// number.
+/// Appends to the text this word, a space, and the number, or `none` if there is no number.
 fn put_number_or_none(text: &mut Text, word: &[u8], number: Option<u64>)
     ensures words { Puts text.old.items text.new.items (number_or_none word.now number) }
     ensures len { length (number_or_none word.now number) ≤ length word.now + 21 }

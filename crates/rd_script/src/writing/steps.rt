@@ -2,7 +2,7 @@
 
 ghost use Rattle.std.specs.Prelude.{◌≡◌, ◌≤◌, length};
 ghost use Rattle.rd_script.specs.Puts.{PutsUpTo};
-ghost use Rattle.rd_script.specs.Steps.{step_place_words, access_kind_word, access_answer_words, result_words, step_result_words, access_words, step_words};
+ghost use Rattle.rd_script.specs.Steps.{step_place_words, access_kind_words, access_answer_words, result_words, step_result_words, access_words, step_words};
 
 use super::contents::{put_content, put_index, put_segment_name, put_value, tail_word};
 use super::events::put_event;
@@ -43,7 +43,7 @@ fn put_access(text: &mut Text, entry: &Entry)
 {
     put_step_place(text, entry.place);
     put(text, b"; ");
-    put(text, access_kind_word(entry.place, entry.wrote));
+    put(text, access_kind_words(entry.place, entry.wrote));
     put(text, b"; ");
     put_access_answer(text, entry.answer);
 }
@@ -58,10 +58,10 @@ fn put_step_place(text: &mut Text, place: Option<Place>)
     }
 }
 
-/// Returns the word for what a step did at its place: it read, wrote, or wrote only the index half.
-/// `none` if it has no place.
-fn access_kind_word(place: Option<Place>, wrote: Wrote) -> &'static [u8]
-    ensures name { result.now ≡ access_kind_word place wrote }
+/// Returns the words for what a step did at its place: it read, wrote, or wrote only the index
+/// half. `none` if it has no place.
+fn access_kind_words(place: Option<Place>, wrote: Wrote) -> &'static [u8]
+    ensures name { result.now ≡ access_kind_words place wrote }
     ensures len { length result.now ≤ 11 }
 {
     match (place, wrote) {

@@ -1,5 +1,5 @@
-use Rattle.rd_ring.proofs.Prelude.{◌≡◌, ℕ, ◌<◌, slice_get, Some, None, new_cell}
+use Rattle.rd_ring.proofs.Prelude.{◌≡◌, ℕ, ◌<◌, slice_get, Some, fresh_cell}
 use Rattle.rd_ring.proofs.segments.are_fresh_cells.Given as goal
 
 abbrev pub invariant-loop-i : goal.invariant-loop-i
-invariant-loop-i l = (u : ℕ) → u < l.i → slice_get l.cells u ≡ Some (new_cell u None)
+invariant-loop-i l = (u : ℕ) → u < l.i → slice_get l.cells u ≡ Some (fresh_cell u)

@@ -12,6 +12,6 @@ returns-clause-ok g c =
     c.push_reserved.ensures.items ∙ ap (λ (xs : List (Segment _)). xs ++ c.fresh.result ∷ []) c.in_ok-root.ensures.items in
     record {
       segment = c.fresh.result;
-      fresh_parts = c.fresh.ensures;
+      fresh_contents = c.fresh.ensures;
       at = λ t. c.loop.invariant.2 t ∙ ap (λ (xs : List (ListOf _)). by_name xs t) items ∙ root_alone root [] c.fresh.result one (All-nil _) t.maker t.n;
     }

@@ -1,7 +1,7 @@
 use Rattle.std.proofs.Common.{rules, tests}
 use Rattle.std.proofs.lemmas.Iterator.{YieldsList-from_slice}
 use Rattle.std.proofs.lemmas.Iterator.Search.{any_from_yields_List}
-use Rattle.rd_trace.proofs.Prelude.{common_steps, list_any, view, items_view, mark_name_eq, SpellsMark, SpellMarks, saved_mark, saved_marks, SavedMark, ◌≡◌, ◌+◌, List, length, sym, ap, ◌∙◌, subst, arith, Value}
+use Rattle.rd_trace.proofs.Prelude.{common_steps, list_any, view, items_view, mark_name_eq, SpellsMark, SpellMarksOfBook, saved_mark, saved_marks, SavedMark, ◌≡◌, ◌+◌, List, length, sym, ap, ◌∙◌, subst, arith, Value}
 use Rattle.rd_trace.proofs.SpellLemmas.{part_passed_up}
 use Rattle.rd_trace.proofs.MarkLemmas.{AreRead, none_read, mark_here, name_taken, one_more_mark, all_read, too_many}
 use Rattle.rd_trace.proofs.bookmarks.marks_in.Goals.{After-any}
@@ -17,8 +17,8 @@ pub returns-in_err-mark : goal.returns-in_err-mark
 returns-in_err-mark c =
     let vs = c.deref-value-items.result.now in
     let v = c.value-item.result in
-    part_passed_up saved_mark saved_marks (SpellsMark (view v)) (SpellMarks (items_view c.args.list.now.items))
-    (λ ms k. mark_here vs c.loop-value.value-index v (omega arith) c.value-item.is ms (subst (λ (ws : List Value). SpellMarks (items_view ws) ms) (sym c.deref-value-items.ensures.value) k))
+    part_passed_up saved_mark saved_marks (SpellsMark (view v)) (SpellMarksOfBook (items_view c.args.list.now.items))
+    (λ ms k. mark_here vs c.loop-value.value-index v (omega arith) c.value-item.is ms (subst (λ (ws : List Value). SpellMarksOfBook (items_view ws) ms) (sym c.deref-value-items.ensures.value) k))
     c.in_err-mark.field-0.0 c.from_residual-in_err-mark.result c.from_residual-in_err-mark.ensures.1 c.in_err-mark.ensures
 
 -- whether a bookmark before this one has its name
@@ -31,7 +31,7 @@ returns-then-any c = λ ms k.
     let m = c.in_ok-mark.mark in
     let taken = sym (taken_before (goal.at.returns-then-any c).After-any) ∙ c.if-any.true in
     name_taken c.deref-value-items.result.now c.loop-value.value-index c.value-item.result (omega arith) c.value-item.is c.loop-value.marks.items c.loop-value.invariant.0 m
-    c.in_ok-mark.ensures taken ms (subst (λ (ws : List Value). SpellMarks (items_view ws) ms) (sym c.deref-value-items.ensures.value) k)
+    c.in_ok-mark.ensures taken ms (subst (λ (ws : List Value). SpellMarksOfBook (items_view ws) ms) (sym c.deref-value-items.ensures.value) k)
 
 pub loop-value-preserved : goal.loop-value-preserved
 loop-value-preserved c =

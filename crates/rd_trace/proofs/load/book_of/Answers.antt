@@ -1,4 +1,4 @@
-use Rattle.rd_trace.proofs.Prelude.{rules, ◌≡◌, ◌≤◌, ◌++◌, map, length, length-map, Ok, Err, ap, sym, subst, subst₂, ◌∙◌, arith, view, State, back, book_state, saved_mark, saved_trace, loaded_state, MOST_MARKS, HaveDifferentNames, RefusesOne, SetsMarks, Book}
+use Rattle.rd_trace.proofs.Prelude.{rules, ◌≡◌, ◌≤◌, ◌++◌, map, length, length-map, Ok, Err, ap, sym, subst, subst₂, ◌∙◌, arith, view, State, back, book_state, saved_mark, saved_trace, loaded_state, MOST_MARKS, HaveDifferentNames, IsFaultOfEvents, SetsMarks, Book}
 use Rattle.rd_trace.proofs.LoadLemmas.{names_differ, few_marks, loads_value, not_loaded}
 use Rattle.rd_trace.proofs.ReplayLemmas.{MakesLive, from_old, live_refused, enough_live, made_live, no_world, no_marks, no_steps, plays}
 use Rattle.rd_trace.proofs.load.book_of.Goals as goal
@@ -42,7 +42,7 @@ returns-in_err-go_to g c =
     let fault = c.in_err-go_to.field-0.0 in
     not_loaded (view c.args.value) t c.in_ok-session.ensures fault c.from_residual-in_err-go_to.result c.from_residual-in_err-go_to.ensures.1
     (no_steps t c.in_ok-world.ensures.0 old start now set IsBook fault
-    (live_refused now.session.start t.live t.undone fault (subst (λ es. RefusesOne now.session.start es fault) c.deref-2.ensures.value c.in_err-go_to.ensures)))
+    (live_refused now.session.start t.live t.undone fault (subst (λ es. IsFaultOfEvents now.session.start es fault) c.deref-2.ensures.value c.in_err-go_to.ensures)))
 
 pub returns-in_err-step_all : goal.returns-in_err-step_all
 returns-in_err-step_all g c =
@@ -55,7 +55,7 @@ returns-in_err-step_all g c =
     let fault = c.in_err-step_all.field-0.0 in
     not_loaded (view c.args.value) t c.in_ok-session.ensures fault c.from_residual-in_err-step_all.result c.from_residual-in_err-step_all.ensures.1
     (no_steps t c.in_ok-world.ensures.0 old start now set IsBook fault
-    (subst₂ (λ es fs. RefusesOne now.session.start (es ++ fs) fault) c.deref-2.ensures.value c.deref-3.ensures.value
+    (subst₂ (λ es fs. IsFaultOfEvents now.session.start (es ++ fs) fault) c.deref-2.ensures.value c.deref-3.ensures.value
     (from_old now (book_state c.go_to.new.book) (book_state c.step_all.new.book) c.deref-2.result.now c.deref-3.result.now (Err fault) c.in_ok-go_to.ensures.0 c.in_err-step_all.ensures.goes)))
 
 pub undo_last-requires : goal.undo_last-requires

@@ -1,4 +1,4 @@
-use Rattle.rd_trace.proofs.Prelude.{◌≡◌, ◌⊎◌, Ok, Err, IsOk, refl, ap, sym, subst, subst₂, ◌∙◌, arith, book_state, get_or_default, mark, SavedMark, RefusesOne, GoesTo, TraceStep}
+use Rattle.rd_trace.proofs.Prelude.{◌≡◌, ◌⊎◌, Ok, Err, IsOk, refl, ap, sym, subst, subst₂, ◌∙◌, arith, book_state, get_or_default, mark, SavedMark, IsFaultOfEvents, GoesTo, TraceStep}
 use Rattle.rd_trace.proofs.ReplayLemmas.{one_set, can_mark, mark_refused, all_set}
 use Rattle.rd_trace.proofs.replay.set_marks.Goals as goal
 use Rattle.rd_cell.specs.declared.refusal.Refusal.TheVariants as refusal
@@ -15,7 +15,7 @@ returns-in-Err g c =
     let m = c.index-marks-i.result in
     let its = c.deref.ensures.value ∙ ap (λ (x : SavedMark). x.events.items) (sym c.index-marks-i.is) in
     let fault = TraceStep c.in-TraceStep.step c.in-TraceStep.cause in
-    let why = subst₂ (RefusesOne now.session.start) its c.in-TraceStep.is c.in-Err.ensures in
+    let why = subst₂ (IsFaultOfEvents now.session.start) its c.in-TraceStep.is c.in-Err.ensures in
     mark_refused (book_state c.args.book.now) now c.args.marks.now c.loop-i.i m (omega arith) c.index-marks-i.is c.loop-i.invariant (book_state c.go_to.new.book) fault why
 
 pub unreachable-requires : goal.unreachable-requires

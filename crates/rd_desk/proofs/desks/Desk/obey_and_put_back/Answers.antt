@@ -17,5 +17,5 @@ returns-clause-outcome g c = let found = entries c.args.kept.history in let new 
       words = by.2;
     }
 
-pub returns-clause-waits : goal.returns-clause-waits
-returns-clause-waits g c = (recorded_by (opened_state c.args.self.now) _ (seen c.args.pass.now) _ _ _ c.args.pass.now c.obey_and_record-answer.result (rw c.number.ensures at c.obey_and_record-answer.ensures.recorded)).1
+pub returns-clause-never_busy : goal.returns-clause-never_busy
+returns-clause-never_busy g c = (recorded_by (opened_state c.args.self.now) _ (seen c.args.pass.now) _ _ _ c.args.pass.now c.obey_and_record-answer.result (rw c.number.ensures at c.obey_and_record-answer.ensures.recorded)).1

@@ -1,4 +1,4 @@
-use Rattle.rd_journal.proofs.Prelude.{ℕ, Err, ◌≡◌, ◌∙◌, ◌<◌, List, [], ◌∷◌, ◌++◌, length, take, drop, inl, inr, refl, sym, ap, subst, arith, opened_with, append-nil, take_all, take-append-le, drop-append_seam, Entry, HasRoomInstead, kept_entries, model, room, MOST_STEPS, error_passed_up, fact_passed_up, err_then, ok_then, IsLengthened, whole_journal, live_entries, ahead_entries, journal}
+use Rattle.rd_journal.proofs.Prelude.{ℕ, Err, ◌≡◌, ◌∙◌, ◌<◌, List, [], ◌∷◌, ◌++◌, length, take, drop, inl, inr, refl, sym, ap, subst, arith, opened_with, append-nil, take_all, take-append-le, drop-append_seam, Entry, HasRoomInstead, kept_entries, model, room, MOST_STEPS, error_passed_up, fact_passed_up, err_then, ok_then, IsAppendedToLive, whole_journal, live_entries, ahead_entries, journal}
 use Rattle.rd_journal.proofs.Ahead.{with_undone, is_session, none_taken}
 use Rattle.rd_journal.proofs.Calls.{apply_refused, apply_goes, longer_session, still, unchanged, may_refuse-state}
 use Rattle.rd_journal.proofs.RoomLemmas.{lacks_fewer, stepped_back}
@@ -106,7 +106,7 @@ invariant_of-self-2 g c =
     let less : length old.live < MOST_STEPS = omega (arith, c.live_len.ensures, self.kept.few) in
     let whole : take c.live_len-live.result (live_entries c.make_room_for.new.self) ≡ old.live =
     ap (take c.live_len-live.result) c.make_room_for.ensures.live ∙ take_all c.live_len-live.result old.live (omega (arith, c.live_len-live.ensures)) in
-    let longer : IsLengthened c.in_ok-entry.entry old new = grind arith in
+    let longer : IsAppendedToLive c.in_ok-entry.entry old new = grind arith in
     let first : take c.live_len-live.result (live_entries c.make_room_for.new.self ++ ahead_entries c.make_room_for.new.self) ≡ take c.live_len-live.result (live_entries c.make_room_for.new.self) =
     grind (arith, take-append-le) in
     record {
@@ -125,5 +125,5 @@ returns-clause-ok g c =
     let less : length old.live < MOST_STEPS = omega (arith, c.live_len.ensures, self.kept.few) in
     let whole : take c.live_len-live.result (live_entries c.make_room_for.new.self) ≡ old.live =
     ap (take c.live_len-live.result) c.make_room_for.ensures.live ∙ take_all c.live_len-live.result old.live (omega (arith, c.live_len-live.ensures)) in
-    let longer : IsLengthened c.in_ok-entry.entry old new = grind arith in
+    let longer : IsAppendedToLive c.in_ok-entry.entry old new = grind arith in
     apply_goes old new c.args.event c.in_ok-entry.entry (is_session self).runs less c.in_ok-entry.ensures.ok refl longer

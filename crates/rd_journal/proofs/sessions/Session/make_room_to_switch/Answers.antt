@@ -1,4 +1,4 @@
-use Rattle.rd_journal.proofs.Prelude.{List, refl, ◌∙◌, ap, subst, arith, drop, OnOk, model, room, Entry, HasRoomForActors, room_after_undoing}
+use Rattle.rd_journal.proofs.Prelude.{List, refl, ◌∙◌, ap, subst, arith, drop, OnOk, model, room, Entry, ActorsHaveRoom, room_after_undoing}
 use Rattle.rd_journal.proofs.Calls.{still, unchanged}
 use Rattle.rd_journal.proofs.sessions.Session.make_room_to_switch.Goals as goal
 
@@ -20,5 +20,5 @@ returns-clause-unchanged g c = unchanged _ _ refl c.make_room_for_makings.ensure
 pub returns-clause-makings : goal.returns-clause-makings
 returns-clause-makings g c =
     let world = c.make_room_for_makings.new.world in
-    subst (λ (xs : List Entry). OnOk c.make_room_for_makings.result (HasRoomForActors (model world) c.args.given.now (room_after_undoing xs (room world))))
+    subst (λ (xs : List Entry). OnOk c.make_room_for_makings.result (ActorsHaveRoom (model world) c.args.given.now (room_after_undoing xs (room world))))
     (c.after.ensures ∙ ap (drop c.args.kept) c.live.ensures) c.make_room_for_makings.ensures.ok

@@ -1,4 +1,4 @@
-use Rattle.rd_journal.proofs.Prelude.{opened_with, common_steps, append-nil, length-take-le, take_at, drop_at, take-append-le, drop-append-le, model, room, closure_of, without_closure, Entry, IsIndexOf, HasRoomFor, live_entries, ahead_entries, kept_entries, whole_journal, ◌≡◌, ◌∙◌, ◌-◌, List, [], ◌++◌, refl, ap, subst, arith, take, drop, length}
+use Rattle.rd_journal.proofs.Prelude.{opened_with, common_steps, append-nil, length-take-le, take_at, drop_at, take-append-le, drop-append-le, model, room, closure_entries, without_closure, Entry, IsIndexOf, HasRoomFor, live_entries, ahead_entries, kept_entries, whole_journal, ◌≡◌, ◌∙◌, ◌-◌, List, [], ◌++◌, refl, ap, subst, arith, take, drop, length}
 use Rattle.rd_journal.proofs.Calls.{back_start}
 use Rattle.rd_journal.proofs.Finding.{cut_before}
 use Rattle.rd_journal.proofs.RoomLemmas.{fits_none, fits_back, fits_turned}
@@ -26,15 +26,15 @@ fill_index-requires g c =
     let index = c.truncate.new.self in
     let said = c.gather_closure-count.ensures in
     let len : length (take n live) ≡ n = length-take-le n live (omega (arith, c.requires.position)) in
-    let kept : kept_entries c.gather_closure-count.new.self ≡ (without_closure live k ++ closure_of live k) ++ ahead = λ i. said.live i ++ said.ahead i in
+    let kept : kept_entries c.gather_closure-count.new.self ≡ (without_closure live k ++ closure_entries live k) ++ ahead = λ i. said.live i ++ said.ahead i in
     let cut = cut_before live ahead k c.requires.some c.requires.position in
     let left : IsIndexOf index (take n live) =
-    subst (λ (es : List Entry). IsIndexOf index es) (take_at (take n live) (closure_of live k) n len) (c.truncate.ensures.left (take n live ++ closure_of live k) said.index) in
+    subst (λ (es : List Entry). IsIndexOf index es) (take_at (take n live) (closure_entries live k) n len) (c.truncate.ensures.left (take n live ++ closure_entries live k) said.index) in
     let long : n ≡ index.len = omega (arith, left.len, len) in
-    let room : HasRoomFor index (closure_of live k ++ (drop n (without_closure live k) ++ ahead)) =
-    subst (λ (es : List Entry). HasRoomFor index (es ++ (drop n (without_closure live k) ++ ahead))) (drop_at (take n live) (closure_of live k) n len)
-    (fits_back c.gather_closure-count.new.index index (drop n (take n live ++ closure_of live k)) (drop n (without_closure live k) ++ ahead)
-    (c.truncate.ensures.room (take n live ++ closure_of live k) said.index) said.room) in
+    let room : HasRoomFor index (closure_entries live k ++ (drop n (without_closure live k) ++ ahead)) =
+    subst (λ (es : List Entry). HasRoomFor index (es ++ (drop n (without_closure live k) ++ ahead))) (drop_at (take n live) (closure_entries live k) n len)
+    (fits_back c.gather_closure-count.new.index index (drop n (take n live ++ closure_entries live k)) (drop n (without_closure live k) ++ ahead)
+    (c.truncate.ensures.room (take n live ++ closure_entries live k) said.index) said.room) in
     record {
       indexed = grind arith;
       room = grind (arith, fits_turned);

@@ -7,8 +7,8 @@ use Rattle.rd_cell.specs.declared.operations.Answer.TheVariants as answer
 
 pub returns-in-Some-read_answer-clause-ok : goal.returns-in-Some-read_answer-clause-ok
 returns-in-Some-read_answer-clause-ok g c =
-    Operates-read c.args.self.now c.args.place c.args.operation c.in-Some.found c.in-Some-read_answer.answer c.at.result
-    (sym c.in-Some.ensures) (sym c.in-Some-read_answer.ensures) c.at.ensures
+    Operates-read c.args.self.now c.args.place c.args.operation c.in-Some.found c.in-Some-read_answer.answer c.of_operation.result
+    (sym c.in-Some.ensures) (sym c.in-Some-read_answer.ensures) c.of_operation.ensures
 
 pub cas2_cell-won-requires : goal.cas2_cell-won-requires
 cas2_cell-won-requires g c = (
@@ -30,9 +30,9 @@ returns-in-Ok-add_tail-clause-ok g c = grind arith
 
 pub returns-in-Tail-Close-clause-ok : goal.returns-in-Tail-Close-clause-ok
 returns-in-Tail-Close-clause-ok g c =
-    Operates-from_OperatesAt c.args.self.now _ (λ s. place.Tail s) _ c.args.place _ c.args.operation _ c.in-Some.found _ _ c.at-in-Tail-Close.result (λ q. refl)
+    Operates-from_OperatesAt c.args.self.now _ (λ s. place.Tail s) _ c.args.place _ c.args.operation _ c.in-Some.found _ _ c.of_operation-in-Tail-Close.result (λ q. refl)
     c.in-Tail-Close.is-0 c.in-Tail-Close.is-1 (sym c.in-Some.ensures) c.close-closed.ensures
-    (λ e. c.at-in-Tail-Close.ensures ∙ ap (λ (x : Content). record { place = Some c.args.place; old = Some x; answer = answer.WasClosed c.close-closed.result; wrote = wrote.Place }) e)
+    (λ e. c.of_operation-in-Tail-Close.ensures ∙ ap (λ (x : Content). record { place = Some c.args.place; old = Some x; answer = answer.WasClosed c.close-closed.result; wrote = wrote.Place }) e)
 
 pub returns-in-Tail-CasTail-clause-ok : goal.returns-in-Tail-CasTail-clause-ok
 returns-in-Tail-CasTail-clause-ok g c =

@@ -1,4 +1,4 @@
-use Rattle.rd_depend.proofs.Prelude.{◌≡◌, ℕ, true, false, length, Option, None, refl, sym, ap, ◌∙◌, arith, slot_in, list_of, kept_in}
+use Rattle.rd_depend.proofs.Prelude.{◌≡◌, ℕ, true, false, length, Option, None, refl, sym, ap, ◌∙◌, arith, slot_in, some_list_at, kept_in}
 use Rattle.rd_depend.proofs.IndexTable.{removes_last, last_there}
 use Rattle.rd_depend.proofs.index.table.Table.remove_last_under.Goals as goal
 
@@ -18,5 +18,5 @@ returns-in-Some c =
 pub returns-in_default : goal.returns-in_default
 returns-in_default c =
     let none : slot_in c.args.self.now.keys.keys c.args.key ≡ None = sym c.key_index.ensures.slot ∙ c.in_default.is in
-    let empty : length (kept_in c.args.self.now false c.args.key) ≡ 0 = ap (λ (o : Option ℕ). length (list_of c.args.self.now.all.items o)) none in
+    let empty : length (kept_in c.args.self.now false c.args.key) ≡ 0 = ap (λ (o : Option ℕ). length (some_list_at c.args.self.now.all.items o)) none in
     absurd (omega (arith, c.requires false c.args.key refl refl))

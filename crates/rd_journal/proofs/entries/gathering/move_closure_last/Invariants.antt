@@ -1,6 +1,6 @@
 use Rattle.rd_journal.proofs.Prelude.{◌≡◌, vec_capacity}
 use Rattle.rd_journal.proofs.GatheringLoop.{UnderWay}
-use Rattle.rd_journal.proofs.entries.gathering.gather.Given as goal
+use Rattle.rd_journal.proofs.entries.gathering.move_closure_last.Given as goal
 
 abbrev pub invariant-loop-next : goal.invariant-loop-next
 invariant-loop-next l = record {

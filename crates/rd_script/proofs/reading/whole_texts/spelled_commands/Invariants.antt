@@ -1,5 +1,5 @@
 use Rattle.rd_script.proofs.Prelude.{◌≡◌, ◌++◌, drop, commands_of}
-use Rattle.rd_script.proofs.reading.whole_texts.commands_in.Given as goal
+use Rattle.rd_script.proofs.reading.whole_texts.spelled_commands.Given as goal
 
 -- the commands so far, and those of the lines after them
 abbrev pub invariant-loop-line : goal.invariant-loop-line

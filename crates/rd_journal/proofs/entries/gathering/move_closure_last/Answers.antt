@@ -2,8 +2,8 @@ use Rattle.rd_journal.proofs.Prelude.{put_mid, vec_capacity, append-nil, drop-dr
 use Rattle.rd_journal.proofs.GatheringLoop.{live_of, live_of-length, UnderWay, next_one, first_gathered, before_next, joined, stayed, ended, carried}
 use Rattle.rd_journal.proofs.RoomLemmas.{fits_one, fits_between}
 use Rattle.rd_journal.proofs.Numbers.{order_below}
-use Rattle.rd_journal.proofs.entries.gathering.gather.Goals as goal
-use Rattle.rd_journal.proofs.entries.gathering.gather.Goals.{then-depends_on_any_after, else-depends_on_any_after}
+use Rattle.rd_journal.proofs.entries.gathering.move_closure_last.Goals as goal
+use Rattle.rd_journal.proofs.entries.gathering.move_closure_last.Goals.{then-depends_on_any_after, else-depends_on_any_after}
 
 -- what is told of the index is told of what is gathered
 told : (before block : List Entry) (x : Entry) (b : Bool) (n : ℕ) → length before ≡ n → b ≡ depends_on_any (drop n (before ++ block)) x → depends_on_any block x ≡ b
