@@ -1,5 +1,5 @@
 -- Chains of answers by a gate, and lists whose elements are related pairwise.
-use Rattle.rd_desk.proofs.Prelude.{map, Option, Vec, ◌≡◌, ℕ, List, [], ◌∷◌, ◌++◌, length, arith, ◌+◌, ◌<◌, get_or, take, add-one, AllByRecursion, AllZip, Answer, Command, Global, IsChain, IsDone, IsRunEnding, all_zipped_more, run_ending, take-suc, zip}
+use Rattle.rd_desk.proofs.Prelude.{map, Option, Vec, ◌≡◌, ℕ, List, [], ◌∷◌, ◌++◌, length, arith, ◌+◌, ◌<◌, ◌≤◌, get_or, take, add-one, AllByRecursion, AllZip, Answer, Command, Global, IsChain, IsDone, IsRunEnding, all_zipped_more, run_ending, subst, sym, take-suc, zip}
 
 module _ {P : Type 0} (told : P → Command → Answer → P → Type 0) where
   -- asking one more command makes a chain longer
@@ -23,6 +23,15 @@ module _ {A B : Type 0} (R : A → B → Type 0) where
   pub AllZip-with_each : (P : A → Type 0) (xs : List A) (ys : List B) → AllByRecursion P xs → AllZip R xs ys → AllZip (λ x y. P x × R x y) xs ys
   AllZip-with_each P [] ys each h = grind arith
   AllZip-with_each P (x ∷ xs) ys each h = grind (arith, AllZip-with_each P xs)
+
+-- where each x has P and is related to its y, so is the pair that a loop over the zipped lists takes
+pub AllZip-turn : {A B : Type 0} (R : A → B → Type 0) (P : A → Type 0) (xs : List A) (ys : List B) (i : ℕ) (p : A × B) → (i < length (zip xs ys)) × (p ≡ get_or (zip xs ys) i p) → AllByRecursion P xs → AllZip R xs ys → P p.0 × R p.0 p.1
+AllZip-turn R P xs ys i p turn each h = subst (λ q. P q.0 × R q.0 q.1) (sym turn.1) (AllZip-zip_at (λ x y. P x × R x y) xs ys i p turn.0 (AllZip-with_each R P xs ys each h))
+
+-- zipped lists are no longer than the first of them
+pub zip_short : {A B : Type 0} (xs : List A) (ys : List B) → length (zip xs ys) ≤ length xs
+zip_short (x ∷ xs) (y ∷ ys) = omega (arith, zip_short xs ys)
+zip_short _ _ = omega arith
 
 module _ {A B C : Type 0} (R : A → B → Type 0) where
   -- if S relates the first elements of the pairs of xs and ys to zs, it relates xs to zs

@@ -1,6 +1,7 @@
 -- The words that several proofs of the crate use: definitions of this crate and of those below,
 -- generated types and their variants, and lemmas of these crates and of std.
 pub use Rattle.std.proofs.lemmas.Iterator.Adapters.{YieldsList-from_vec}
+pub use Rattle.std.proofs.lemmas.List.{length_push}
 pub use Rattle.std.proofs.lemmas.Slice.Zip.{all_zipped_more}
 pub use Rattle.rd_cell.proofs.Prelude.{AllByRecursion, AllZip, AllZip-long, Err, Global, IfErr, IsSend, IsSync, List, Ok, OnErr, OnOk, Option, RattleType, Result, Vec, YieldsList-end, YieldsList-from_zip, YieldsList-turn, [], add-one, ap, append-nil, arith, common_steps, crosses, eq-eqb, frees, get_or, inl, inr, length, length-append, map, map-append, map-id, max, part_keyless, recorded_send, recorded_sync, refl, rules, sendable, shape, struct_send, struct_sync, subst, suc, sym, take, take-suc, take_all, vec_capacity, vec_len, zip, ℕ, ∥∥₁_map, ◌*◌, ◌++◌, ◌+◌, ◌<◌, ◌^◌, ◌∙◌, ◌∷◌, ◌≡◌, ◌≤◌, ◌⊎◌}
 pub use Rattle.rd_marks.proofs.Prelude.{BookState, IsObeyed, Refusal, book_state, journal, session_of}

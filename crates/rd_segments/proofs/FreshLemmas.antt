@@ -1,5 +1,5 @@
 -- A space is fresh exactly if its ends, its array and its makers' lists are.
-use Rattle.rd_segments.proofs.Prelude.{◌≡◌, ℕ, suc, ◌-◌, ◌≤◌, if◌then◌else◌, All, List, [], ◌∷◌, length, get_or, take, drop, slice_get, Option, Some, None, refl, sym, ap, ◌∙◌, arith, lt-ltb, common_steps, cond-true, slice_get-get_or, fun_ext, name_eq-true, SegName, Place, Content, root, name_eq, Contents, fresh_segment, Segment, segment_contents, ListOf, element_in, by_name, some_contents, AreFreshLists, IsOneFreshSegment, ArrayParts, array_contents, fresh_array, contents_of_fields, fresh_space, take_rest, slice_get_cases}
+use Rattle.rd_segments.proofs.Prelude.{◌≡◌, ℕ, suc, ◌-◌, ◌≤◌, if◌then◌else◌, All, List, [], ◌++◌, ◌∷◌, length, get_or, take, drop, slice_get, Option, Some, None, refl, sym, ap, ◌∙◌, arith, lt-ltb, common_steps, cond-true, slice_get-get_or, fun_ext, name_eq-true, SegName, Place, Content, root, name_eq, Contents, fresh_segment, Segment, segment_contents, ListOf, element_in, by_name, some_contents, AreFreshLists, IsOneFreshSegment, ArrayParts, array_contents, fresh_array, contents_of_fields, fresh_space, take_rest, slice_get_cases, slice_get_past, slice_get-push_same, slice_get-push_other}
 use Rattle.rd_cell.specs.declared.places.Place.TheVariants as place
 use Rattle.rd_cell.specs.declared.contents.ArrSlot.TheVariants as slot
 use Rattle.rd_cell.specs.declared.contents.Content.TheVariants as content
@@ -47,6 +47,10 @@ module _ {R : ℕ} where
   pub root_alone : (first : ListOf (Segment R)) (lists : List (ListOf (Segment R))) (s : Segment R) → first.items ≡ s ∷ [] → All (λ list. list.items ≡ []) lists → (m n : ℕ)
       → element_in (slice_get (first ∷ lists) m) n ≡ (if name_eq root (record { maker = m; n = n }) then Some s else None)
   root_alone first lists s one none m n = grind (arith, none_in)
+
+  -- one more list, which is empty, leaves the segment of each name
+  pub by_name-push_empty : (old new : List (ListOf (Segment R))) (list : ListOf (Segment R)) → new ≡ old ++ list ∷ [] → list.items ≡ [] → (t : SegName) → by_name new t ≡ by_name old t
+  by_name-push_empty old new list pushed none t = grind (arith, slice_get-push_same, slice_get-push_other, slice_get_past)
 
   -- lists are fresh if the first has just a fresh segment and all others are empty
   pub fresh_lists : (first : ListOf (Segment R)) (lists : List (ListOf (Segment R))) → IsOneFreshSegment first.items → All (λ list. list.items ≡ []) lists → AreFreshLists (first ∷ lists)

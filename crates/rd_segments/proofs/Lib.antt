@@ -6,3 +6,4 @@ pub mod SegmentsLemmas
 pub mod SpaceLemmas
 pub mod CountLemmas
 pub mod FreshLemmas
+pub mod PartsLemmas

@@ -4,4 +4,4 @@ use Rattle.rd_segments.proofs.parts.parts_of_list.Given as goal
 abbrev pub invariant-loop-n : goal.invariant-loop-n
 invariant-loop-n g l =
     (vec_len l.parts ≡ l.n) × (vec_capacity l.parts ≡ length l.fn.list.items)
-    × ((k : ℕ) (q : Place) → k < l.n → some_contents (slice_get l.fn.list.items k) q ≡ some_parts_contents (slice_get l.parts.items k) q)
+    × ((k : ℕ) (q : Place) → k < l.n → some_parts_contents (slice_get l.parts.items k) q ≡ some_contents (slice_get l.fn.list.items k) q)
