@@ -15,15 +15,16 @@ import tempfile
 import time
 from collections.abc import Callable, Iterable, Mapping, Sequence
 from pathlib import Path
-from typing import IO, NamedTuple, Self
+from typing import IO, NamedTuple, ParamSpec, Self
 
-from lcrq_tools.faults import Fault, Parser
+from lcrq_tools.faults import FAULTS, Fault, Parser, text_of
 
 TOP = Path(__file__).resolve().parent.parent.parent
-CRATES = TOP / "crates"
+CRATES, EXAMPLES = TOP / "crates", TOP / "examples"
 # Where the program is: where `rt run` and `rt ci` leave it, and in the archive that is handed out.
 PLACES = (CRATES / "lcrqdb" / "out" / "lcrqdb", TOP / "bin" / "lcrqdb")
 BUILT = next((path for path in PLACES if path.is_file()), PLACES[0])
+BY_RATTLE = ".by-rattle"  # behind the name of the program, as `rt ci` has it built by Rattle's own compiler
 BUILDS = "(cd crates/lcrqdb && rt run -- run ../../examples/session.script), or unproved python3 tools/quick_build.py"
 SECONDS = 120.0  # a run, or a line, that takes longer has failed
 LOOK_EVERY = 0.001
@@ -36,6 +37,9 @@ NO_COMMAND = ("refused 22 ", "refused 23 ")
 
 # What makes the checks of a command line, each a name and what is wrong, or nothing.
 Checks = Callable[[argparse.Namespace], Iterable[tuple[str, str]]]
+# Rows that are tried with each build: a name, and what finds what is wrong with a build, or nothing.
+Rows = Sequence[tuple[str, Callable[[str], str]]]
+Given = ParamSpec("Given")
 
 
 class Ended(NamedTuple):
@@ -75,6 +79,12 @@ def required(path: str, command: str) -> str:
     return found
 
 
+def builds_of(built: str) -> list[Path]:
+    """A program, and what Rattle's own compiler built beside it, if that is there."""
+    both = [Path(built).absolute(), Path(built + BY_RATTLE).absolute()]
+    return [path for path in both if path.is_file()]
+
+
 def add_program(parser: argparse.ArgumentParser) -> None:
     """Adds the option that names the built program, which has to be there."""
     built = str(BUILT) if BUILT.is_file() else shutil.which("lcrqdb") or str(BUILT)
@@ -93,13 +103,21 @@ def run(
     env: Mapping[str, str] | None = None,
     cwd: Path | None = None,
     preexec_fn: Callable[[], None] | None = None,
+    executable: str | None = None,
 ) -> Ended:
-    """What a run gives: its status, its output as bytes, and its standard error as text."""
+    """What a run gives: its status, its output as bytes, and its standard error as text. The first
+    word is what the program takes as its own name; the file to run, if it has another one, is
+    `executable`."""
     ended = subprocess.run(
         words, input=given, stdout=stdout, stderr=subprocess.PIPE, timeout=timeout, env=env, cwd=cwd,
-        preexec_fn=preexec_fn, check=False,
+        preexec_fn=preexec_fn, executable=executable, check=False,
     )
     return Ended(ended.returncode, ended.stdout, ended.stderr.decode(errors="replace"))
+
+
+def lines_of(text: str) -> list[str]:
+    """The lines of a text. Only a line feed ends one."""
+    return text.removesuffix("\n").split("\n") if text else []
 
 
 def refusals_of(script: bytes, replies: Sequence[str]) -> tuple[str, bool]:
@@ -329,12 +347,37 @@ def spread_of(values: Sequence[float]) -> tuple[float, float, float]:
     return statistics.median(values), min(values), max(values)
 
 
+# ---- Checks --------------------------------------------------------------------------------------
+
+
+def tried(check: Callable[Given, str], *given: Given.args, **named: Given.kwargs) -> str:
+    """What a check finds wrong, or nothing; what it can't read or run is wrong too."""
+    try:
+        return check(*given, **named)
+    except (*FAULTS, ValueError) as fault:
+        return text_of(fault)
+
+
 def run_checks(about: str | None, example: str, checks: Checks) -> int:
     """What a check does that has no option but the program: prints what `checks` finds with these
     options, and returns the exit status."""
     parser = Parser(about, example)
     add_program(parser)
     return print_checks(checks(parser.parse_args()))
+
+
+def run_rows(about: str | None, example: str, rows: Rows) -> int:
+    """What a check does that tries each row with each build of the program: prints what is wrong with
+    them, and last how many rows and which builds there are; returns the exit status."""
+    parser = Parser(about, example)
+    add_program(parser)
+    builds = builds_of(parser.parse_args().program)
+    status = print_checks(
+        (f"{name}, by {build.name}", tried(check, str(build))) for build in builds for name, check in rows
+    )
+    names = (str(build.relative_to(TOP) if build.is_relative_to(TOP) else build) for build in builds)
+    print(f"{len(rows)} rows, each by {' and '.join(names)}")
+    return status
 
 
 def print_checks(checks: Iterable[tuple[str, str]]) -> int:

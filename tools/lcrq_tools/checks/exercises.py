@@ -26,8 +26,8 @@ from dataclasses import dataclass
 from pathlib import Path
 
 from lcrq_tools import program
+from lcrq_tools.program import EXAMPLES
 
-LESSONS = program.CRATES / "lessons" / "data"
 HEAD, CHANGES = "| Line | Reply |\n|---|---|\n", "| In place of | Write |\n|---|---|\n"
 # Which lines come before those of a table: how many, how often which ones again, of which script.
 BEGINS = re.compile(
@@ -143,7 +143,7 @@ def checks_of(built: str, page: Path) -> Iterator[tuple[str, str]]:
 
 def all_checks(given: argparse.Namespace) -> Iterator[tuple[str, str]]:
     """The answers of all lessons, each with what is wrong with it, or nothing."""
-    for page in sorted(LESSONS.glob("[0-9]*.md")):
+    for page in sorted(EXAMPLES.glob("[0-9]*.md")):
         yield from checks_of(given.program, page)
 
 

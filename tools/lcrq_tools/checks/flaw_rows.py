@@ -6,10 +6,10 @@ import json
 from collections.abc import Callable, Iterator
 from typing import Any
 
-from lcrq_tools import program
 from lcrq_tools.checks.port_runs import Bench
+from lcrq_tools.program import EXAMPLES
 
-SOUND = program.CRATES / "lessons" / "data" / "15-why-a-dequeue-looks-twice-1.trace"
+SOUND = EXAMPLES / "15-why-a-dequeue-looks-twice-1.trace"
 
 Start = dict[str, Any]  # that of a trace, as JSON has it
 

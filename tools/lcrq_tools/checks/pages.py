@@ -12,37 +12,32 @@ tools/ has to be there, and the check or measurement that it runs; .ci/run has t
 test command; and each link leads to a file and a heading that are there. Each line of the manual's
 tables is in the help, and each keyword in its table of replies and in the rows that tests walk.
 
-The gate's programs see the files of their own folders alone. So the session of the README and the
-examples of the manual are in `examples/`, each a script beside its report, and the program
-`lessons` compares what the one is answered with the other. This compares the pages with these
-files. A view, and the line of a trace, are in the stored output of `rehearsals`, and the scripts of
-a view are in `examples/` too, byte for byte. A block that shows a reply and is none of these is a
-fault, and so is a line of the pseudo-code of docs/MODEL.md that `model.py` can't read. Each
-block and each such script prints one line; the status is 1 if any of them differs. Only Python's
-standard library is used.
+The session of the README and the examples of the manual are in `examples/`, each a script beside
+its report, and `tools/check.py lessons` compares what the one is answered with the other. This
+compares the pages with these files. A view, and the line of a trace, are in the stored text of
+`tools/check.py rehearsals`, and the scripts of a view are in `examples/` too, byte for byte. A block
+that shows a reply and is none of these is a fault, and so is a line of the pseudo-code of
+docs/MODEL.md that `model.py` can't read. Each block and each such script prints one line; the status
+is 1 if any of them differs. Only Python's standard library is used.
 """
 
 import collections
 import json
 import re
-from collections.abc import Callable, Iterable, Iterator
+from collections.abc import Iterable, Iterator
 from pathlib import Path
-from typing import ParamSpec
 
 from lcrq_tools import manual, model
-from lcrq_tools.checks import command_rows
+from lcrq_tools.checks import command_rows, rehearsals
 from lcrq_tools.faults import Parser
 from lcrq_tools.look import contracts, definitions
 from lcrq_tools.named import named_in
-from lcrq_tools.program import CRATES, TOP
+from lcrq_tools.program import CRATES, EXAMPLES, TOP, tried
 
-EXAMPLES = TOP / "crates" / "lessons" / "data"
-REHEARSALS = TOP / "crates" / "rehearsals"
 BLOCK = re.compile(r"^( *)```(\w+)\n(.*?)^ *```$", re.MULTILINE | re.DOTALL)
 REPLY = re.compile(rf"(?:{'|'.join(sorted(manual.REPLIES))}|viewer|history)\b.*")
-OUTPUT = "  output|"  # before each line of standard output in the stored output of `rehearsals`
+OUTPUT = "  output|"  # before each line of standard output in the stored text of `rehearsals`
 
-Given = ParamSpec("Given")
 Rows = list[list[str]]  # each a line and its reply
 Example = tuple[str, str | None]  # a name, and that of the one whose lines a page leaves out before it
 
@@ -55,14 +50,6 @@ PAGES: dict[str, list[Example]] = {
 
 # The scripts of `rehearsals` that the manual names, for whoever types its commands in `examples/`.
 COPIED = ["questions.script", "question.script"]
-
-
-def tried(check: Callable[Given, str], *given: Given.args, **named: Given.kwargs) -> str:
-    """What a check finds wrong, or nothing; a file that it can't read is wrong too."""
-    try:
-        return check(*given, **named)
-    except (OSError, ValueError) as fault:
-        return str(fault)
 
 
 def blocks_of(page: str) -> Iterator[tuple[str, list[str]]]:
@@ -97,10 +84,10 @@ def is_example(rows: Rows, name: str, before: str | None) -> str:
 def is_rehearsed(lines: list[str]) -> str:
     """What is wrong with a block of a command line and what it writes, or of a trace alone, or
     nothing."""
-    stored = (REHEARSALS / "stdout").read_text(encoding="utf-8")
+    stored = rehearsals.STORED.read_text(encoding="utf-8")
     head = [lines[0], "  status: 0"] if lines[0].startswith("lcrqdb ") else []
     wanted = "\n".join(head + [OUTPUT + line for line in lines[len(head[:1]):]]) + "\n"
-    return "" if wanted in stored else "it is not in the stored output of rehearsals"
+    return "" if wanted in stored else "it is not in the stored text of rehearsals"
 
 
 def value_of(text: str) -> str | None:
@@ -121,7 +108,7 @@ def is_a_trace(lines: list[str]) -> str:
 
 def is_copied(name: str) -> str:
     """What is wrong with a script of `rehearsals` among the examples, or nothing."""
-    copy, source = EXAMPLES / name, REHEARSALS / "data" / name
+    copy, source = EXAMPLES / name, rehearsals.REHEARSED / name
     return "" if copy.read_bytes() == source.read_bytes() else f"it is not {source.relative_to(TOP)}"
 
 

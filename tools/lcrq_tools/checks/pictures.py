@@ -34,7 +34,7 @@ from lcrq_tools.draw import figure, moment, picture
 from lcrq_tools.faults import Fault, Parser, status_of
 from lcrq_tools.program import TOP
 
-EXAMPLES = Path("crates/lessons/data")
+EXAMPLES = Path("examples")
 GUIDE = f"{EXAMPLES}/guide.md"
 CLOSERS = f"{EXAMPLES}/06-starvation-closes-ring.md"
 PORT_LESSON = "16-a-port-beside-the-model"

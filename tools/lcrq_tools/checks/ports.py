@@ -30,9 +30,9 @@ from lcrq_tools import model, program
 from lcrq_tools.checks import changed_logs, flaw_rows
 from lcrq_tools.checks.port_runs import RINGS, Bench, Told, agrees, differs, steps_with
 from lcrq_tools.port.port_log import Record
-from lcrq_tools.program import TOP
+from lcrq_tools.program import EXAMPLES, TOP
 
-PORT, LESSONS = TOP / "examples" / "port", program.CRATES / "lessons" / "data"
+PORT = EXAMPLES / "port"
 LESSON, LESSON_LOG = "16-a-port-beside-the-model", "unsafe-ignored.log"
 TURNS, FREE = 16, 4  # runs over each ring, in turns and by free threads
 BUG_SEEDS = range(1, 7)
@@ -147,7 +147,7 @@ def go_on_fault(bench: Bench, count: int, log: str) -> str:
 
 def shown_fault(told: Told, status: int) -> str:
     """What is wrong where the lesson should show what a tool says, with this status, or nothing."""
-    page = (LESSONS / f"{LESSON}.md").read_text(encoding="utf-8")
+    page = (EXAMPLES / f"{LESSON}.md").read_text(encoding="utf-8")
     is_right = told[0] == status and f"```text\n{told[1]}```" in page
     return "" if is_right else f"status {told[0]}, and the page does not show: {told[1]}"
 
@@ -157,7 +157,7 @@ def lesson_runs(bench: Bench) -> Iterator[tuple[str, str]]:
     with contextlib.chdir(TOP):
         told = bench.told(f"examples/port/{LESSON_LOG}", "--ring", 2)
     yield f"the report of {LESSON}", shown_fault(told, 1)
-    start, said = (LESSONS / f"{LESSON}.trace").read_text(encoding="ascii"), ""
+    start, said = (EXAMPLES / f"{LESSON}.trace").read_text(encoding="ascii"), ""
     for point in ("E7", "E8"):
         file = bench.folder / "start.trace"
         file.write_text(start.replace('"pc": "E7"', f'"pc": "{point}"'), encoding="ascii")

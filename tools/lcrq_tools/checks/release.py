@@ -393,9 +393,8 @@ def choice_of(words: list[str]) -> release_pages.Choice:
 def lay_repository(folder: Path, built: str) -> None:
     """Lays what the commands of the pages take of the repository into a folder, with the program where
     a build leaves it."""
-    for name in ("tools", "docs", "crates/lessons/data"):
+    for name in ("tools", "docs", "examples"):
         shutil.copytree(TOP / name, folder / name, ignore=shutil.ignore_patterns("__pycache__"))
-    (folder / "examples").symlink_to((TOP / "examples").readlink())
     out = folder / "crates" / "lcrqdb" / "out"
     out.mkdir(parents=True)
     shutil.copy(built, out)

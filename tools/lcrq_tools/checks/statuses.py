@@ -3,8 +3,8 @@ each lesson, and the sessions of README and manual.
 
     python3 tools/check.py statuses [--program P]
 
-The gate can't start the program more than once, with one command line; this does, and compares. The
-status is 1 if anything differs. Only Python's standard library is used.
+`rt ci` gives the program one command line; this gives it others, and compares. The status is 1 if
+anything differs. Only Python's standard library is used.
 """
 
 import os
@@ -17,8 +17,7 @@ from typing import IO
 
 from lcrq_tools import manual, program
 from lcrq_tools.checks import command_rows
-
-LESSONS = program.CRATES / "lessons" / "data"
+from lcrq_tools.program import EXAMPLES
 
 Answer = tuple[int, str, str]  # a status, standard output and standard error
 # A name, the words, standard input, the status, and how standard output and standard error begin.
@@ -311,11 +310,11 @@ def all_checks(built: str) -> Iterator[tuple[str, str]]:
     yield "the help has the lines and the places of the manual", help_fault(built)
     yield "a closed pipe", closed_pipe(built)
     yield "a full device", full_device(built, ["run", "-"], MANY)
-    saving = ["load", str(LESSONS / "poised.trace"), "--trace"]
+    saving = ["load", str(EXAMPLES / "poised.trace"), "--trace"]
     yield "a full device for a saved session", full_device(built, saving, "")
-    for page in sorted(LESSONS.glob("[0-9]*.md")):
+    for page in sorted(EXAMPLES.glob("[0-9]*.md")):
         yield page.stem, "" if is_as_its_page_says(built, page) else "it is not as its page says"
-    for report in sorted(LESSONS.glob("*.report")):
+    for report in sorted(EXAMPLES.glob("*.report")):
         script = report.with_suffix(".script")
         yield report.stem, "" if is_as_report(built, script) else "it is not as its report"
 

@@ -33,9 +33,9 @@ from pathlib import Path
 
 from lcrq_tools import program
 from lcrq_tools.faults import Fault, Parser, say
-from lcrq_tools.program import TOP
+from lcrq_tools.program import EXAMPLES, TOP
 from lcrq_tools.release.release_pages import (
-    DOCS, EXAMPLES, HANDED_OUT, LESSONS, PORT, SCHEMA, Choice, Part, is_chosen, man_page, page_of,
+    DOCS, HANDED_OUT, LESSONS, PORT, SCHEMA, Choice, Part, is_chosen, man_page, page_of,
 )
 
 TOOLS = TOP / "tools"

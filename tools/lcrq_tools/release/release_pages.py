@@ -26,9 +26,9 @@ from typing import Any, NotRequired, TypedDict
 
 from lcrq_tools import program
 from lcrq_tools.faults import Fault
-from lcrq_tools.program import TOP
+from lcrq_tools.program import EXAMPLES, TOP
 
-DOCS, EXAMPLES = TOP / "docs", program.CRATES / "lessons" / "data"
+DOCS = TOP / "docs"
 SCHEMA = DOCS / "trace.schema.json"
 LESSONS = {int(path.name[:2]): path for path in sorted(EXAMPLES.glob("[0-9]*.md"))}  # by number
 SHORT = 30  # letters of code in a line of text that a page does not part

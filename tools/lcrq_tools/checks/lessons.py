@@ -1,0 +1,275 @@
+"""Runs the scripts of the lessons, of the guide and of the sessions, and compares the replies with
+their pages.
+
+    python3 tools/check.py lessons [--program P]
+
+A page of `examples/` has its script beside the replies in a table, with words in a third column,
+which are for readers alone. It has just the tables and traces that its scripts give, in this order,
+byte for byte. A lesson runs over a fresh world, with the defaults, unless its page has one of these
+lines:
+
+    Run with: --ring 2         with these options
+    Run over: `NAME.trace`     over the trace of the lesson's name; the page may show it before its table
+    Run over two starts.       script and trace end in -1 and -2: two traces, each with its table
+    Run by two viewers.        the scripts end in -1 and -2; letters stand for the numbers that another
+                               order of the viewers' calls would change
+
+The guide has the tables of guide-1 to guide-7 with traces between them, and a table of mistakes in
+a trace, each with the line that `load` writes to standard error. Each session, of the README, the
+manual or the recipes, has a report beside its script, and may run over the trace of its name.
+
+Each row runs with each build of the program that is there: that of LLVM and, beside it, that of
+Rattle's own compiler. The status is 1 if a page or report is another one. Only Python's standard
+library is used.
+"""
+
+import functools
+import re
+import tempfile
+from collections.abc import Iterable, Iterator
+
+from lcrq_tools import program
+from lcrq_tools.program import EXAMPLES, Broken, Ended, lines_of
+
+# The lessons, in the order of reading: each has a page and a script of this name.
+LESSONS = [
+    "01-one-enqueue-and-back",
+    "02-empty-dequeue-repairs-tail",
+    "03-refused-undo-names-dependant",
+    "04-independent-steps-change-places",
+    "05-unsafe-cell",
+    "06-starvation-closes-ring",
+    "07-two-makers-race",
+    "08-causal-rollback",
+    "09-bookmarks-and-same",
+    "10-array-queue-livelock",
+    "11-who-wrote-this",
+    "12-two-viewers",
+    "13-a-start-of-ones-own",
+    "14-what-the-safe-bit-prevents",
+    "15-why-a-dequeue-looks-twice",
+    "16-a-port-beside-the-model",
+]
+GUIDE = "guide"
+# The sessions, and whether each runs over the trace of its name: that of README.md, the examples of
+# docs/MANUAL.md, and two draws from the poised world.
+SESSIONS = {
+    "session": False,
+    "manual-1": False,
+    "manual-2": False,
+    "manual-3": False,
+    "manual-4": False,
+    "manual-5": True,
+    "poised": True,
+}
+# Mistakes in the guide's start: the text that is there, and the wrong text in its place.
+MISTAKES = [
+    ('"ring": 2', '"ring": 4'),
+    ('"qtail": [0, 0]', '"qtail": [1, 0]'),
+    ('"tail": 2', '"tail": 4611686018427387905'),
+    ('"op": ["enq", 9]', '"op": ["deq"]'),
+    ('"marks": []', '"marks": [{"name": "a", "events": [["go", 1], ["go", 2]]}]'),
+    ('"events": []', '"events": [["enq", 1, 7]]'),
+]
+
+# What a page has: how a table of lines and replies, one of mistakes, and a trace begin.
+HEADINGS = "| Line | Reply | What happens |"
+MISTAKES_HEAD = "\n| In place of | Somebody writes | `load` answers |\n|---|---|---|\n"
+TRACE_HEAD = "```json\n"
+ROW_BEGINS = "| `"  # below the head of the first
+OPTIONS = re.compile(r"^Run with: (.+)$", re.MULTILINE)
+OVER_TRACE, TWO_STARTS, TWO_VIEWERS = "\nRun over: `{}.trace`\n", "\nRun over two starts.\n", "\nRun by two viewers.\n"
+
+
+def text_of(name: str) -> str:
+    """The text of a file of the examples, whose line ends stay as they are."""
+    return (EXAMPLES / name).read_bytes().decode()
+
+
+# ---- Runs ----------------------------------------------------------------------------------------
+
+
+def report_of(ended: Ended) -> str:
+    """What a run wrote, which has to end well."""
+    if ended.status or ended.errors:
+        raise Broken(f"the program ended with status {ended.status}: {ended.errors.strip()}")
+    return ended.output.decode()
+
+
+def report(built: str, *words: str) -> str:
+    """The report of a command line over files of the examples."""
+    return report_of(program.run([built, *words], cwd=EXAMPLES))
+
+
+def loaded(built: str, trace: str, script: str = "") -> Ended:
+    """What a run of a script over the run of a trace gives."""
+    with tempfile.NamedTemporaryFile(suffix=".trace") as file:
+        file.write(trace.encode())
+        file.flush()
+        return program.run([built, "load", file.name], script.encode())
+
+
+# ---- Tables and traces ---------------------------------------------------------------------------
+
+
+def table_of(script: str, replies: list[str]) -> str:
+    """The table of a script's lines and the replies to them, between two empty lines."""
+    lines = lines_of(script)
+    if len(lines) != len(replies):
+        raise Broken(f"{len(lines)} lines have {len(replies)} replies")
+    rows = "".join(f"| `{line}` | `{reply}` |\n" for line, reply in zip(lines, replies))
+    return f"\n{HEADINGS}\n|---|---|---|\n{rows}\n"
+
+
+def trace_block(trace: str) -> str:
+    """A trace as a page shows it."""
+    return f"{TRACE_HEAD}{trace}```\n"
+
+
+def table_over(built: str, trace: str, script: str) -> str:
+    """The table of the script of this file over the run of a trace."""
+    lines = text_of(script)
+    return table_of(lines, lines_of(report_of(loaded(built, trace, lines))))
+
+
+def table_and_trace(built: str, script: str) -> tuple[str, str]:
+    """The table of the script of this file over a fresh world, and the trace of its run."""
+    *replies, trace = lines_of(report(built, "run", script, "--trace"))
+    return table_of(text_of(script), replies), f"{trace}\n"
+
+
+def masked(reply: str) -> str:
+    """A reply with letters in place of the numbers that another order of the viewers' calls would
+    change: those of steps, how many are live, and a tail's counter."""
+    reply = re.sub(r"^ok [^ ]*", "ok K", reply)
+    reply = re.sub(r"^is open .*", "is open N", reply)
+    return re.sub(r"^at [^ ]* ", "at L ", reply)
+
+
+def table_of_viewers(built: str, name: str) -> str:
+    """The table of two scripts that run at once: of each viewer the file beside its heading, and its
+    lines beside the replies; last the number of recorded calls."""
+    files = [f"{name}-1.script", f"{name}-2.script"]
+    lines = "".join(f"{file}\n{text_of(file)}" for file in files)
+    replies = lines_of(report(built, "view", *files))
+    return table_of(f"{lines}the end\n", [masked(reply) for reply in replies])
+
+
+def table_of_mistakes(built: str, trace: str) -> str:
+    """The table of what `load` answers to each mistake in a trace, between two empty lines. A mistake
+    has no row if the trace doesn't have its right text or still loads."""
+    rows = ""
+    for right, wrong in MISTAKES:
+        before, found, behind = trace.partition(right)
+        answers = lines_of(loaded(built, before + wrong + behind).errors) if found else []
+        rows += "".join(f"| `{right}` | `{wrong}` | `{answer}` |\n" for answer in answers)
+    return f"{MISTAKES_HEAD}{rows}\n"
+
+
+# ---- What a page must have -----------------------------------------------------------------------
+
+
+def over_trace(built: str, name: str, shows: bool = True) -> Iterator[str]:
+    """The trace of this name, if the page shows it, and the table over its run."""
+    trace = text_of(f"{name}.trace")
+    if shows:
+        yield trace_block(trace)
+    yield table_over(built, trace, f"{name}.script")
+
+
+def lesson_blocks(built: str, name: str, page: str) -> Iterable[str]:
+    """The traces and tables of a lesson, in order, as its page says how it runs."""
+    if TWO_STARTS in page:
+        return [*over_trace(built, f"{name}-1"), *over_trace(built, f"{name}-2")]
+    if OVER_TRACE.format(name) in page:
+        return over_trace(built, name, TRACE_HEAD in page)
+    if TWO_VIEWERS in page:
+        return [table_of_viewers(built, name)]
+    script, options = f"{name}.script", OPTIONS.search(page)
+    replies = report(built, "run", script, *(options[1].split() if options else []))
+    return [table_of(text_of(script), lines_of(replies))]
+
+
+def guide_blocks(built: str) -> Iterator[str]:
+    """The tables and traces of the guide, in order."""
+    table, drawn = table_and_trace(built, "guide-1.script")
+    yield from (table, trace_block(drawn))
+    for script in ("guide-2.script", "guide-3.script"):
+        yield table_over(built, drawn, script)
+    yield from over_trace(built, "guide-4")
+    yield table_of_mistakes(built, text_of("guide-4.trace"))
+    yield table_of_viewers(built, "guide-5")
+    table, handed_on = table_and_trace(built, "guide-6.script")
+    yield from (table, trace_block(handed_on), table_over(built, handed_on, "guide-7.script"))
+
+
+# ---- What a page has -----------------------------------------------------------------------------
+
+
+def without_words(page: str) -> str:
+    """A page without the third column of its tables of lines and replies. A row that doesn't have
+    three cells becomes one that no such table has."""
+    bare, is_table = "", False
+    for line in lines_of(page):
+        is_table = line == HEADINGS or is_table and line.startswith("|")
+        is_row = is_table and line.startswith(ROW_BEGINS)
+        bare += (re.sub(r"\|[^|]*\|$", "|", line) if is_row else line) + "\n"
+    return bare
+
+
+def missing_in(rest: str, block: str) -> str:
+    """The first line of a table or trace that the rest of a page doesn't have as a line of its own."""
+    return next((line for line in lines_of(block) if f"\n{line}\n" not in f"\n{rest}"), "its lines, in a row")
+
+
+def blocks_fault(page: str, blocks: Iterable[str]) -> str:
+    """What is wrong with a page that shall have these tables and traces, in this order and no other
+    ones, or nothing."""
+    begins, rest = (HEADINGS, MISTAKES_HEAD, TRACE_HEAD), page
+    for number, block in enumerate(blocks, 1):
+        before, found, behind = rest.partition(block)
+        if not found:
+            return f"table or trace {number} of its page lacks {missing_in(rest, block)}"
+        if any(begin in before for begin in begins):
+            return f"its page has another table or trace before its number {number}"
+        rest = behind
+    return "its page has one more table or trace" if any(begin in rest for begin in begins) else ""
+
+
+# ---- All of it -----------------------------------------------------------------------------------
+
+
+def lesson_fault(name: str, built: str) -> str:
+    """What is wrong with the page of a lesson, or nothing."""
+    page = text_of(f"{name}.md")
+    return blocks_fault(without_words(page), lesson_blocks(built, name, page))
+
+
+def guide_fault(built: str) -> str:
+    """What is wrong with the guide, or nothing."""
+    return blocks_fault(without_words(text_of(f"{GUIDE}.md")), guide_blocks(built))
+
+
+def session_fault(name: str, over_a_trace: bool, built: str) -> str:
+    """What is wrong with the report of a session, or nothing."""
+    script = f"{name}.script"
+    if over_a_trace:
+        replies = report_of(loaded(built, text_of(f"{name}.trace"), text_of(script)))
+    else:
+        replies = report(built, "run", script)
+    wanted = text_of(f"{name}.report")
+    pairs = zip([*lines_of(replies), ""], [*lines_of(wanted), ""])
+    wrong = (f"the reply is `{reply}`, and its report has `{said}`" for reply, said in pairs if reply != said)
+    return "" if replies == wanted else next(wrong, "its report has another end")
+
+
+def rows() -> program.Rows:
+    """Each lesson, the guide and each session."""
+    lessons = [(name, functools.partial(lesson_fault, name)) for name in LESSONS]
+    sessions = [(name, functools.partial(session_fault, name, is_over)) for name, is_over in SESSIONS.items()]
+    return [*lessons, (GUIDE, guide_fault), *sessions]
+
+
+def main() -> int:
+    """Prints each row; returns the exit status."""
+    return program.run_rows(__doc__, "python3 tools/check.py lessons", rows())

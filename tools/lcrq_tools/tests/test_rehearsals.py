@@ -1,0 +1,58 @@
+"""What `tools/check.py rehearsals` compares with its stored text."""
+
+import shutil
+import unittest
+
+from lcrq_tools.checks import rehearsals
+from lcrq_tools.checks.rehearsals import Rehearsal
+from lcrq_tools.program import Ended
+
+ECHO = shutil.which("echo") or "/bin/echo"
+
+
+class Streams(unittest.TestCase):
+    """What comes of a command line, and its text."""
+
+    def test_each_line_has_its_stream(self) -> None:
+        self.assertEqual(rehearsals.shown_stream("output", "ok 1\n\nok\n"), "  output|ok 1\n  output|\n  output|ok\n")
+        self.assertEqual(rehearsals.shown_stream("output", "a\r\n"), "  output|a\r\n")
+
+    def test_a_line_says_what_no_line_shows(self) -> None:
+        self.assertEqual(rehearsals.shown_stream("errors", ""), "  errors: nothing\n")
+        wanted = "  output|ok 1\n  output|ok\n  output: no line feed at the end\n"
+        self.assertEqual(rehearsals.shown_stream("output", "ok 1\nok"), wanted)
+
+    def test_words_status_and_streams_are_in_order(self) -> None:
+        text = rehearsals.shown(Rehearsal("run -", "len\n"), Ended(2, b"Help:\nforms\n", "no\n"), "forms")
+        self.assertEqual(text, "lcrqdb run -\n  status: 2\n  output|Help:\n  output|FORMS\n  errors|no\n")
+
+    def test_an_output_takes_what_it_has_room_for(self) -> None:
+        for room, taken in ((0, b""), (5, b"two w")):
+            status, output, errors = rehearsals.ended(ECHO, Rehearsal("two words", "", room))
+            self.assertEqual((status, output), (1, taken))
+            self.assertGreater(len(errors), room)  # which has no limit
+        self.assertEqual(rehearsals.ended(ECHO, Rehearsal("two words", "", 10)), (0, b"two words\n", ""))
+        self.assertEqual(rehearsals.ended(ECHO, Rehearsal("two words", "")), (0, b"two words\n", ""))
+
+
+class Stored(unittest.TestCase):
+    """The stored text."""
+
+    def test_each_command_line_has_a_part(self) -> None:
+        text = "lcrqdb run\n  output|lcrqdb \nlcrqdb load\nlcrqdb view\n"
+        parts = ["lcrqdb run\n  output|lcrqdb \n", "lcrqdb load\n", "lcrqdb view\n"]
+        self.assertEqual(rehearsals.parts_of(text, 3), parts)
+        self.assertEqual(rehearsals.parts_of(text, 2)[1:], ["lcrqdb load\nlcrqdb view\n"])
+        self.assertEqual(rehearsals.parts_of(text, 4)[2:], ["lcrqdb view\n", ""])
+        self.assertEqual(rehearsals.parts_of("\n" + text, 3)[0], "\n")
+
+    def test_the_parts_have_the_words_of_the_rows(self) -> None:
+        parts = rehearsals.parts_of(rehearsals.STORED.read_text(encoding="ascii"), len(rehearsals.REHEARSALS))
+        words = [part.partition("\n")[0] for part in parts]
+        self.assertEqual(words, [f"lcrqdb {row.words}" for row in rehearsals.REHEARSALS])
+
+    def test_the_first_other_line_is_named(self) -> None:
+        self.assertEqual(rehearsals.difference("a\nb\n", "a\nb\n"), "")
+        self.assertEqual(rehearsals.difference("a\nb\n", "a\nc\n"), "`b`, and stored is `c`")
+        self.assertEqual(rehearsals.difference("a\n", "a\nc\n"), "`nothing more`, and stored is `c`")
+        self.assertEqual(rehearsals.difference("a\n", "a"), "the stored text has no line feed at the end")
