@@ -14,3 +14,5 @@ mod inverse;
 mod ring;
 #[cfg(test)]
 mod segments;
+#[cfg(test)]
+mod world;

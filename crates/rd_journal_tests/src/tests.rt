@@ -1,10 +1,11 @@
-//! The tests of the journal: runs as data, and the small helper that plays them.
+//! The tests of dependence, and of the journal: runs as data, and the small helper that plays them.
 //!
 //! A run is a list of lines. Most do something to a session that must be accepted, or refused as
 //! the line says; the others say what must be so then.
 
 mod agreement;
 mod closures;
+mod dependence;
 mod lone_undo;
 mod long_runs;
 mod rollback;

@@ -1,5 +1,5 @@
-//! The tests of `rd_marks`, over its public calls: in a crate of their own, since a crate with
-//! tests is proved twice.
+//! The tests of `rd_origin` and `rd_marks`, over their public calls: in a crate of their own, since a
+//! crate with tests is proved twice.
 #![tactic(auto)]
 
 #[cfg(test)]

@@ -1,6 +1,0 @@
-use Rattle.std.proofs.Common.{drop}
-use Rattle.rd_depend.specs.Index.{HasRoomFor}
-use Rattle.rd_depend_tests.proofs.tests.index.push_in_room.Given as goal
-
-abbrev pub invariant-loop-at : goal.invariant-loop-at
-invariant-loop-at l = HasRoomFor l.index (drop l.at l.entries)

@@ -1,6 +1,0 @@
-//! The tests of `rd_lock`, over its public calls: in a crate of their own, since a crate with tests
-//! is proved twice.
-#![tactic(auto)]
-
-#[cfg(test)]
-mod tests;

@@ -1,4 +1,0 @@
-//! The tests of the queries.
-
-mod runs;
-mod writers;
