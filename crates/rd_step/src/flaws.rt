@@ -8,14 +8,13 @@ ghost use Rattle.rd_ring.specs.Segments.{counters_fit};
 ghost use Rattle.rd_segments.specs.Parts.{each_segment};
 ghost use Rattle.rd_actor.specs.Words.{words_fit};
 ghost use Rattle.rd_step.specs.WellFormed.{names_fit, next_fits, numbers_within};
-ghost use Rattle.rd_step.specs.Parts.{has_segment, makers_fit, place_names_fit, actor_names_fit, indexes_fit, array_fits, first_flaw};
+ghost use Rattle.rd_step.specs.Parts.{has_segment, makers_fit, place_names_fit, actor_names_fit, indexes_fit, first_flaw};
 
 use super::parts::Parts;
 use rd_actor::Actor;
 use rd_cell::SegName;
 use rd_cell::limits::{COUNTER_END, MOST_ACTORS, MOST_SEGMENTS, SLOTS};
 use rd_ring::SegmentParts;
-use rd_segments::ArrayParts;
 
 /// The first condition of a well-formed world that parts fail, with its number, 1 to 8.
 #[derive(Clone, Copy, Debug, PartialEq, Eq)]
@@ -86,7 +85,7 @@ impl<const R: usize> Parts<R> {
             Some(Flaw::Counters)
         } else if !self.all_indexes_fit(index_end) {
             Some(Flaw::Indexes)
-        } else if !array_fits(&self.array) {
+        } else if self.array.head > SLOTS as u64 || self.array.tail > SLOTS as u64 {
             Some(Flaw::ArrayCounters)
         } else if !actor_numbers_fit(&self.actors, index_end) {
             Some(Flaw::ActorNumbers)
@@ -217,13 +216,6 @@ fn lists_fit<const R: usize>(makers: &[Vec<SegmentParts<R>>]) -> bool
             ensures { result ≡ nat_le (length list.now.items) MOST_SEGMENTS }
         { list.len() <= MOST_SEGMENTS },
     )
-}
-
-/// Whether both counters of the array are at most 64.
-fn array_fits(array: &ArrayParts) -> bool
-    ensures { result ≡ array_fits array.now }
-{
-    array.head <= SLOTS as u64 && array.tail <= SLOTS as u64
 }
 
 /// Whether each actor's t and h are at most 2^62, and its idx at most `end`.

@@ -1,5 +1,5 @@
 -- Actors as JSON values: the values that are written are read as the same.
-use Rattle.rd_trace.proofs.Prelude.{◌≡◌, [], ◌∷◌, refl, ℕ, List, length, Option, Some, None, arith, unsigned, items_view, Actor, segment_name_of, segment_name_data, byte_number, val_of, val_data, op_of_items, SpellsActor, actor_data, Value}
+use Rattle.rd_trace.proofs.Prelude.{◌≡◌, [], ◌∷◌, refl, List, length, Some, None, arith, unsigned, items_view, Actor, segment_name_of, segment_name_data, byte_number, op_of_items, SpellsActor, actor_data, Value}
 use Rattle.serde_json.specs.Data.{number}
 
 -- a list of another length than one or two spells no call
@@ -7,9 +7,6 @@ pub spells_no_op : (vs : List Value) → (length vs ≡ 1 → ⊥) → (length v
 spells_no_op (a ∷ []) one two = absurd (one refl)
 spells_no_op (a ∷ b ∷ []) one two = absurd (two refl)
 spells_no_op _ one two = refl
-
-pub val_spelled : (val : Option ℕ) → val_of (val_data val) ≡ Some val
-val_spelled val = grind arith
 
 -- the JSON value of an actor spells it, if the values of its pass and of its names are read as
 -- these

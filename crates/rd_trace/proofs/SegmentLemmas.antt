@@ -1,8 +1,6 @@
--- Segments as JSON values: which cells are read, and the values as which segments are written spell
--- them.
-use Rattle.rd_trace.proofs.Prelude.{◌≡◌, refl, ℕ, ◌+◌, ◌<◌, ◌≤◌, List, [], ◌∷◌, length, take, set, get_or, Some, None, option_map, ap, arith, add-one, take-suc-set, length-set, take_all, view, items_view, Cell, SegmentParts, Gives, SpellEach, items_by, next_of, next_data, cell_of_items, cell_of, cell_data, SpellsSegment, segment_data, Value, Data, Items, as_array, Option, Result, Ok, Err, Vec, Global, TraceFault, NoMemory, BadTrace, Reads, elements, itself, SpellEachOf, SpellsSegmentList, subst, sym}
+-- Segments as JSON values: which cells are read.
+use Rattle.rd_trace.proofs.Prelude.{◌≡◌, refl, ℕ, ◌+◌, ◌<◌, ◌≤◌, List, [], ◌∷◌, length, take, set, get_or, None, arith, add-one, take-suc-set, length-set, take_all, view, items_view, Cell, SegmentParts, Gives, SpellEach, cell_of_items, cell_of, SpellsSegment, Value, Data, Items, as_array, Option, Result, Ok, Err, Vec, Global, TraceFault, NoMemory, BadTrace, Reads, elements, itself, SpellEachOf, SpellsSegmentList, subst, sym}
 use Rattle.rd_trace.proofs.SpellLemmas.{spell_each-more}
-use Rattle.rd_trace.proofs.ActorLemmas.{val_spelled}
 
 -- a list of another length than three spells no cell
 pub spells_no_cell : (vs : List Value) → (length vs ≡ 3 → ⊥) → cell_of_items (items_view vs) ≡ None
@@ -28,17 +26,3 @@ segments_read d o is (Ok v) h = subst (λ p. SpellEachOf SpellsSegment p v.items
 segments_read d o is (Err NoMemory) h = tt
 segments_read d o is (Err BadTrace) h = λ v k. h v.items (subst (λ p. SpellEachOf SpellsSegment p v.items) (sym is) k)
 segments_read d o is (Err _) h = absurd h
-
--- ---- what is written is read again
-
-pub cell_spelled : (c : Cell) → cell_of (cell_data c) ≡ Some c
-cell_spelled c = ap (option_map (λ val. record { safe = c.safe; idx = c.idx; val = val })) (val_spelled c.val)
-
-cells_spelled : (cs : List Cell) → SpellEach (Gives cell_of) (items_by cell_data cs) cs
-cells_spelled [] = tt
-cells_spelled (c ∷ cs) = (cell_spelled c, cells_spelled cs)
-
--- the JSON value of a segment spells it, if the value of the next segment's name is read as this
--- name
-pub segment_spelled : {R : ℕ} (s : SegmentParts R) → next_of (next_data s.next) ≡ Some s.next → SpellsSegment (segment_data s) s
-segment_spelled s next = grind (arith, cells_spelled s.cells)

@@ -52,17 +52,20 @@ impl Plain for Actor {
             return None;
         }
         Some(Actor {
-            pc: Pc::of_label(value.get(PC)?.as_str()?)?,
+            pc: value
+                .get(PC)
+                .and_then(Value::as_str)
+                .and_then(Pc::of_label)?,
             pass: u8::try_from(number_at(value, PASS)?).ok()?,
-            closed: value.get(CLOSED)?.as_bool()?,
-            safe: value.get(SAFE)?.as_bool()?,
-            crq: segment_name_in(value.get(CRQ)?)?,
-            new: segment_name_in(value.get(NEW)?)?,
-            next: segment_name_in(value.get(NEXT)?)?,
-            op: op_in(value.get(OP)?)?,
+            closed: value.get(CLOSED).and_then(Value::as_bool)?,
+            safe: value.get(SAFE).and_then(Value::as_bool)?,
+            crq: value.get(CRQ).and_then(segment_name_in)?,
+            new: value.get(NEW).and_then(segment_name_in)?,
+            next: value.get(NEXT).and_then(segment_name_in)?,
+            op: value.get(OP).and_then(op_in)?,
             t: number_at(value, T)?,
             h: number_at(value, H)?,
-            val: val_in(value.get(VAL)?)?,
+            val: value.get(VAL).and_then(val_in)?,
             idx: number_at(value, IDX)?,
         })
     }
@@ -135,7 +138,6 @@ pub fn val_in(value: &Value) -> Option<Option<u64>>
 
 /// Returns the call that a JSON value spells, or no call for `null`; none if the JSON value spells
 /// neither.
-#[tactic(auto, using(crate::proofs::ActorLemmas::spells_no_op))]
 fn op_in(value: &Value) -> Option<Option<Op>>
     ensures { result ≡ op_of (view value.now) }
 {

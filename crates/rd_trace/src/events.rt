@@ -1,13 +1,14 @@
 //! Events as JSON: an array of a word and an actor, from 0 to 255, and of a number or a choice if
 //! the word takes one. The text that is appended for an event is read back as that event.
 
-ghost use Rattle.std.specs.Prelude.{◌≡◌, ◌++◌, ◌∷◌, [], nat_lt, Some, OnOk, string_bytes, decimal};
+ghost use Rattle.std.specs.Prelude.{◌≡◌, ◌++◌, ◌∷◌, [], nat_lt, Some, IfSome, IsNone, OnOk, string_bytes, decimal};
+ghost use Rattle.serde_json.specs.View.{view};
 ghost use Rattle.json.specs.Token.{boolean};
 ghost use Rattle.json.specs.Print.{token_text};
 ghost use Rattle.serde_json.specs.Data.{number, unsigned};
 ghost use Rattle.serde_json.specs.Written.{compact_text, comma_if};
 ghost use Rattle.rd_trace.specs.Spelled.{Gives};
-ghost use Rattle.rd_trace.specs.Events.{event_of, event_data};
+ghost use Rattle.rd_trace.specs.Events.{act_of_word, act_with_value, event_of, event_data};
 ghost use Rattle.rd_trace.specs.Texts.{IsReadBack, IsSpelledBack, AreAppended};
 
 use super::spelled::Plain;
@@ -21,28 +22,33 @@ impl Plain for Event {
     ghost spells = { Gives event_of };
 
     /// Returns the event that a JSON value spells; none if it spells none.
-    #[tactic(auto, using(crate::proofs::EventLemmas::spells_no_event))]
     fn in_value(value: &Value) -> Option<Event> {
-        let items = value.as_array()?;
-        let (act, actor) = match items.as_slice() {
-            [word, actor] => match word.as_str()? {
-                "go" => (Act::Go, actor),
-                "deq" => (Act::Deq, actor),
-                "adeq" => (Act::ADeq, actor),
-                _ => return None,
-            },
-            [word, actor, value] => match word.as_str()? {
-                "enq" => (Act::Enq(value.as_u64()?), actor),
-                "aenq" => (Act::AEnq(value.as_u64()?), actor),
-                "starve" => (Act::Starve(value.as_bool()?), actor),
-                _ => return None,
-            },
+        let (word, actor, value) = match value.as_array()?.as_slice() {
+            [word, actor] => (word, actor, None),
+            [word, actor, value] => (word, actor, Some(value)),
             _ => return None,
         };
         Some(Event {
-            act,
+            act: act_in(word.as_str()?, value)?,
             actor: u8::try_from(actor.as_u64()?).ok()?,
         })
+    }
+}
+
+/// Returns the act that a word spells, with the JSON value after the actor if there is one; none if
+/// they spell none.
+fn act_in(word: &str, value: Option<&Value>) -> Option<Act>
+    ensures alone { IsNone value.entry → result ≡ act_of_word word.now }
+    ensures with_value { IfSome value.entry (λ d. result ≡ act_with_value word.now (view d.now)) }
+{
+    match (word, value) {
+        ("go", None) => Some(Act::Go),
+        ("deq", None) => Some(Act::Deq),
+        ("adeq", None) => Some(Act::ADeq),
+        ("enq", Some(value)) => value.as_u64().map(Act::Enq),
+        ("aenq", Some(value)) => value.as_u64().map(Act::AEnq),
+        ("starve", Some(choice)) => choice.as_bool().map(Act::Starve),
+        _ => None,
     }
 }
 

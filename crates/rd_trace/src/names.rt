@@ -10,7 +10,6 @@ use serde_json::{Value, json};
 use std::alloc::{AllocError, Global};
 
 /// Returns the name of a segment that a JSON value spells; none if it spells none.
-#[tactic(auto, using(crate::proofs::NumberLemmas::spells_no_name))]
 pub fn segment_name_in(value: &Value) -> Option<SegName>
     ensures { result ≡ segment_name_of (view value.now) }
 {

@@ -67,7 +67,7 @@ impl<const R: usize> Plain for SegmentParts<R> {
         Some(SegmentParts {
             head: number_at(value, HEAD)?,
             tail: number_at(value, TAIL)?,
-            closed: value.get(CLOSED)?.as_bool()?,
+            closed: value.get(CLOSED).and_then(Value::as_bool)?,
             next: match value.get(NEXT)? {
                 Value::Null => None,
                 name => Some(segment_name_in(name)?),
@@ -81,7 +81,6 @@ impl<const R: usize> Written for SegmentParts<R> {
     ghost datum = { segment_data };
 
     /// Returns the JSON value of the segment. Fails only if memory is refused.
-    #[tactic(auto, using(crate::proofs::SegmentLemmas::segment_spelled))]
     fn to_value(&self, alloc: Global) -> Result<Value, AllocError> {
         let cells = list_json(alloc, &self.cells[..])?;
         let next = next_json(alloc, self.next)?;
@@ -99,7 +98,6 @@ impl Plain for Cell {
     ghost spells = { Gives cell_of };
 
     /// Returns the cell that a JSON value spells; none if it spells none.
-    #[tactic(auto, using(crate::proofs::SegmentLemmas::spells_no_cell))]
     fn in_value(value: &Value) -> Option<Cell> {
         let items = value.as_array()?;
         match items.as_slice() {

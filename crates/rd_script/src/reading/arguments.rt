@@ -4,24 +4,25 @@ ghost use Rattle.std.specs.Prelude.{◌≡◌, ◌≢◌, ℕ, Bool, true, ◌^�
 ghost use Rattle.std.specs.Fmt.{decimal};
 ghost use Rattle.rd_marks.specs.NameBytes.{is_mark_name};
 ghost use Rattle.rd_marks.specs.Names.{bytes_of};
+ghost use Rattle.rd_step.specs.Prelude.{SegName as Segment};
+ghost use Rattle.rd_script.specs.Contents.{segment_name_words};
+ghost use Rattle.rd_script.specs.Grammar.{IsSegmentInRange};
 ghost use Rattle.rd_script.specs.Texts.{yes_or_no};
 ghost use Rattle.rd_script.specs.Reading.{IsFaultOfNames, ReadsName};
 
-use super::numbers::{u8_in, u64_in};
+use super::numbers::{segment_name_in, u8_in, u64_in};
 use super::words::is_word;
 use crate::faults::LineFault;
-use rd_marks::{Command, MarkName};
+use rd_cell::SegName;
+use rd_marks::MarkName;
 
-/// Returns this command, or `None` if there are words after its keyword.
-pub fn without_arguments(words: &[&[u8]], command: Command) -> Option<Command>
-    ensures some { IfSome result (λ c. (c ≡ command) × (map (λ word. word.now) words.now ≡ [])) }
+/// Returns what a word means without arguments: `meant`, or `None` if there are words after it.
+pub fn without_arguments<T: Copy>(words: &[&[u8]], meant: T) -> Option<T>
+    ensures some { IfSome result (λ found. (found ≡ meant)
+        × (map (λ word. word.now) words.now ≡ [])) }
     ensures none { IfNone result (map (λ word. word.now) words.now ≢ []) }
 {
-    if words.is_empty() {
-        Some(command)
-    } else {
-        None
-    }
+    if words.is_empty() { Some(meant) } else { None }
 }
 
 /// Returns the number from 0 to 255 that the only word spells. `None` if there isn't exactly one
@@ -48,6 +49,34 @@ pub fn only_u64(words: &[&[u8]]) -> Option<u64>
         return None;
     };
     u64_in(number)
+}
+
+/// Returns the segment's name that the only word spells. `None` if there isn't exactly one word, or
+/// if it spells no segment's name.
+pub fn only_segment_name(words: &[&[u8]]) -> Option<SegName>
+    ensures some { IfSome result (λ s. map (λ word. word.now) words.now
+        ≡ segment_name_words s ∷ []) }
+    ensures none { IfNone result ((s : Segment) → IsSegmentInRange s
+        → map (λ word. word.now) words.now ≢ segment_name_words s ∷ []) }
+{
+    let [segment] = words else {
+        return None;
+    };
+    segment_name_in(segment)
+}
+
+/// Returns the segment's name and the index, from 0 to 255, that two words spell. `None` if there
+/// aren't exactly two words, or if they don't spell these.
+pub fn segment_name_and_u8(words: &[&[u8]]) -> Option<(SegName, u8)>
+    ensures some { IfSome result (λ r. map (λ word. word.now) words.now
+        ≡ segment_name_words r.0 ∷ decimal r.1 ∷ []) }
+    ensures none { IfNone result ((s : Segment) (index : ℕ) → IsSegmentInRange s → index < 256
+        → map (λ word. word.now) words.now ≢ segment_name_words s ∷ decimal index ∷ []) }
+{
+    let [segment, index] = words else {
+        return None;
+    };
+    Some((segment_name_in(segment)?, u8_in(index)?))
 }
 
 /// Returns the actor, from 0 to 255, and the value, from 0 to 2^64 - 1, that two words spell.

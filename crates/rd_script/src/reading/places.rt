@@ -6,7 +6,7 @@ ghost use Rattle.rd_script.specs.declared.reading.places.PlaceKind.{PlaceKind as
 ghost use Rattle.rd_script.specs.Grammar.{kind_text};
 ghost use Rattle.rd_script.specs.Reading.{ReadsPlace, ReadsPlaceOfKind};
 
-use super::numbers::{segment_name_in, u8_in};
+use super::arguments::{only_segment_name, only_u8, segment_name_and_u8, without_arguments};
 use rd_cell::Place;
 
 /// The kind of a place, which is its first word.
@@ -93,27 +93,29 @@ impl PlaceKind {
     fn place(self, words: &[&[u8]]) -> Option<Place>
         ensures { ReadsPlaceOfKind self (map (λ word. word.now) words.now) result }
     {
-        Some(match (self, words) {
-            (PlaceKind::QHead, []) => Place::QHead,
-            (PlaceKind::QTail, []) => Place::QTail,
-            (PlaceKind::ArrHead, []) => Place::ArrHead,
-            (PlaceKind::ArrTail, []) => Place::ArrTail,
-            (PlaceKind::Head, [segment]) => Place::Head(segment_name_in(segment)?),
-            (PlaceKind::Tail, [segment]) => Place::Tail(segment_name_in(segment)?),
-            (PlaceKind::Next, [segment]) => Place::Next(segment_name_in(segment)?),
-            (PlaceKind::Whole, [segment]) => Place::Whole(segment_name_in(segment)?),
-            (PlaceKind::Cell, [segment, index]) => {
-                Place::Cell(segment_name_in(segment)?, u8_in(index)?)
+        match self {
+            PlaceKind::QHead => without_arguments(words, Place::QHead),
+            PlaceKind::QTail => without_arguments(words, Place::QTail),
+            PlaceKind::Head => only_segment_name(words).map(Place::Head),
+            PlaceKind::Tail => only_segment_name(words).map(Place::Tail),
+            PlaceKind::Next => only_segment_name(words).map(Place::Next),
+            PlaceKind::Cell => {
+                let (segment, index) = segment_name_and_u8(words)?;
+                Some(Place::Cell(segment, index))
             }
-            (PlaceKind::Value, [segment, index]) => {
-                Place::Val(segment_name_in(segment)?, u8_in(index)?)
+            PlaceKind::Value => {
+                let (segment, index) = segment_name_and_u8(words)?;
+                Some(Place::Val(segment, index))
             }
-            (PlaceKind::Index, [segment, index]) => {
-                Place::Idx(segment_name_in(segment)?, u8_in(index)?)
+            PlaceKind::Index => {
+                let (segment, index) = segment_name_and_u8(words)?;
+                Some(Place::Idx(segment, index))
             }
-            (PlaceKind::ArrCell, [index]) => Place::ArrCell(u8_in(index)?),
-            _ => return None,
-        })
+            PlaceKind::Whole => only_segment_name(words).map(Place::Whole),
+            PlaceKind::ArrHead => without_arguments(words, Place::ArrHead),
+            PlaceKind::ArrTail => without_arguments(words, Place::ArrTail),
+            PlaceKind::ArrCell => only_u8(words).map(Place::ArrCell),
+        }
     }
 }
 
