@@ -77,7 +77,6 @@ impl<const R: usize> Book<R> {
     /// In this order: `NoMark` if no bookmark has this name; `NoMemory` if memory was refused for
     /// the steps that are made again, or for a copy of their entries. `NoMemory` can't happen if
     /// the live steps begin with the bookmark's. A refusal changes nothing.
-    #[tactic(auto, using(crate::proofs::MarkLemmas::goto_steps))]
     pub fn goto_mark(&mut self, name: MarkName) -> Result<(), Refusal>
         ensures ok { OnOk result (goto_mark (book_state self.old) name ≡ Ok (book_state self.new)) }
         ensures err { IfErr result (λ refusal. (goto_mark (book_state self.old) name ≡ Err refusal)
@@ -98,7 +97,6 @@ impl<const R: usize> Book<R> {
     ///
     /// `NoMark` if one of the bookmarks doesn't exist; `NoMemory` if memory for the comparison was
     /// refused, which never happens if one list begins the other.
-    #[tactic(auto, using(crate::proofs::MarkLemmas::goto_steps))]
     pub fn same(&self, one: MarkName, other: MarkName) -> Result<bool, Refusal>
         ensures { AnswersSame (book_state self.now).session.start
             (events_by_name (book_state self.now).marks one)

@@ -29,7 +29,6 @@ impl<const R: usize> Book<R> {
     /// `origin` or `last_writer`. `Show` is refused with `NoSuchPlace` if the world doesn't have
     /// the place, and `Actor` with `NoActor` if it doesn't have the actor. A refused command
     /// changes nothing.
-    #[tactic(auto, using(crate::proofs::ObeyLemmas::no_event_refused))]
     pub fn obey(&mut self, command: Command) -> Result<Reply, Refusal>
         ensures answer { IsObeyed (book_state self.old) command
             (record { answer = result; state = book_state self.new }) }

@@ -1,4 +1,4 @@
-use Rattle.rd_journal.proofs.Prelude.{ℕ, Err, ◌≡◌, ◌∙◌, ◌<◌, List, [], ◌∷◌, ◌++◌, length, take, drop, inl, inr, refl, sym, ap, subst, arith, opened_with, append-nil, take_all, take-append-le, drop-append_seam, Entry, HasRoomInstead, kept_entries, model, room, MOST_STEPS, error_passed_up, fact_passed_up, err_then, ok_then, IsAppendedToLive, whole_journal, live_entries, ahead_entries, journal}
+use Rattle.rd_journal.proofs.Prelude.{common_steps, ℕ, Err, ◌≡◌, ◌∙◌, ◌<◌, List, [], ◌∷◌, ◌++◌, length, take, drop, inl, inr, refl, sym, ap, subst, arith, opened_with, append-nil, take_all, take-append-le, drop-append_seam, Entry, HasRoomInstead, kept_entries, model, room, MOST_STEPS, error_passed_up, fact_passed_up, err_then, ok_then, IsAppendedToLive, whole_journal, live_entries, ahead_entries, journal}
 use Rattle.rd_journal.proofs.Ahead.{with_undone, is_session, none_taken}
 use Rattle.rd_journal.proofs.Calls.{apply_refused, apply_goes, longer_session, still, unchanged, may_refuse-state}
 use Rattle.rd_journal.proofs.RoomLemmas.{lacks_fewer, stepped_back}
@@ -127,3 +127,69 @@ returns-clause-ok g c =
     ap (take c.live_len-live.result) c.make_room_for.ensures.live ∙ take_all c.live_len-live.result old.live (omega (arith, c.live_len-live.ensures)) in
     let longer : IsAppendedToLive c.in_ok-entry.entry old new = grind arith in
     apply_goes old new c.args.event c.in_ok-entry.entry (is_session self).runs less c.in_ok-entry.ensures.ok refl longer
+
+pub live_len-requires : goal.live_len-requires
+live_len-requires g c = grind (arith, common_steps)
+
+pub live_len-live-requires : goal.live_len-live-requires
+live_len-live-requires g c = grind (arith, common_steps)
+
+pub make_room_for-requires : goal.make_room_for-requires
+make_room_for-requires g c = grind (arith, common_steps)
+
+pub step-requires : goal.step-requires
+step-requires g c = grind (arith, common_steps)
+
+pub from_ref-requires : goal.from_ref-requires
+from_ref-requires g c = grind (arith, common_steps)
+
+pub replace_in_index-requires-clause-indexed : goal.replace_in_index-requires-clause-indexed
+replace_in_index-requires-clause-indexed g c = grind (arith, common_steps)
+
+pub replace_in_index-requires-clause-within : goal.replace_in_index-requires-clause-within
+replace_in_index-requires-clause-within g c = grind (arith, common_steps)
+
+pub replace_in_index-requires-clause-few : goal.replace_in_index-requires-clause-few
+replace_in_index-requires-clause-few g c = grind (arith, common_steps)
+
+pub returns-then-is_err-clause-ok : goal.returns-then-is_err-clause-ok
+returns-then-is_err-clause-ok g c = grind (arith, common_steps)
+
+pub returns-then-is_err-clause-reply : goal.returns-then-is_err-clause-reply
+returns-then-is_err-clause-reply g c = grind (arith, common_steps)
+
+pub returns-then-is_err-clause-step : goal.returns-then-is_err-clause-step
+returns-then-is_err-clause-step g c = grind (arith, common_steps)
+
+pub returns-then-is_err-clause-order : goal.returns-then-is_err-clause-order
+returns-then-is_err-clause-order g c = grind (arith, common_steps)
+
+pub from_ref-requires-2 : goal.from_ref-requires-2
+from_ref-requires-2 g c = grind (arith, common_steps)
+
+pub replace_after-requires-clause-within : goal.replace_after-requires-clause-within
+replace_after-requires-clause-within g c = grind (arith, common_steps)
+
+pub replace_after-requires-clause-room : goal.replace_after-requires-clause-room
+replace_after-requires-clause-room g c = grind (arith, common_steps)
+
+pub replace_after-requires-clause-few : goal.replace_after-requires-clause-few
+replace_after-requires-clause-few g c = grind (arith, common_steps)
+
+pub returns-clause-reply : goal.returns-clause-reply
+returns-clause-reply g c = grind (arith, common_steps)
+
+pub returns-clause-step : goal.returns-clause-step
+returns-clause-step g c = grind (arith, common_steps)
+
+pub returns-clause-err : goal.returns-clause-err
+returns-clause-err g c = grind (arith, common_steps)
+
+pub returns-clause-memory : goal.returns-clause-memory
+returns-clause-memory g c = grind (arith, common_steps)
+
+pub returns-clause-order : goal.returns-clause-order
+returns-clause-order g c = grind (arith, common_steps)
+
+pub returns-clause-unchanged : goal.returns-clause-unchanged
+returns-clause-unchanged g c = grind (arith, common_steps)

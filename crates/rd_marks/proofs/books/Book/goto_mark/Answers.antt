@@ -1,5 +1,5 @@
 use Rattle.rd_marks.proofs.Prelude.{List, sym, ap, ◌∙◌, option_map, arith, Entry, state, book_state, named_entries_in, entries_at, stretches_in, AreEntriesOfRun, mark_name_eq, events}
-use Rattle.rd_marks.proofs.MarkLemmas.{all_found, found_events, goto_not_done}
+use Rattle.rd_marks.proofs.MarkLemmas.{all_found, found_events, goto_not_done, goto_steps}
 use Rattle.rd_marks.proofs.ObeyLemmas.{start_kept}
 use Rattle.rd_marks.proofs.books.Book.goto_mark.Goals as goal
 
@@ -16,3 +16,15 @@ returns-clause-err g c =
 
 pub invariant_of-self-clause-runs : goal.invariant_of-self-clause-runs
 invariant_of-self-clause-runs g c = rw (start_kept c.go_to.result _ _ _ c.go_to.ensures.ok c.go_to.ensures.unchanged, c.go_to.ensures.lists) c.args.self.now.runs
+
+pub returns-in_default-clause-err : goal.returns-in_default-clause-err
+returns-in_default-clause-err g c = grind (arith, goto_steps)
+
+pub returns-in_default-clause-memory : goal.returns-in_default-clause-memory
+returns-in_default-clause-memory g c = grind (arith, goto_steps)
+
+pub returns-clause-ok : goal.returns-clause-ok
+returns-clause-ok g c = grind (arith, goto_steps)
+
+pub returns-clause-memory : goal.returns-clause-memory
+returns-clause-memory g c = grind (arith, goto_steps)

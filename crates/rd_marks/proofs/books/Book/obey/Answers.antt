@@ -54,3 +54,30 @@ returns-in-GotoMark-clause-start g c = (obeyed_leaves (book_state c.args.self.no
 pub returns-in-Mark-clause-succeeds : goal.returns-in-Mark-clause-succeeds
 returns-in-Mark-clause-succeeds g c =
     subst (λ (x : Command). SetsMarkWithoutMemory (book_state c.args.self.now) (name_room c.args.self.now) x → IsOk c.answer_mark.result) (sym c.in-Mark.is) c.answer_mark.ensures.succeeds
+
+pub returns-in-Mark-clause-memory : goal.returns-in-Mark-clause-memory
+returns-in-Mark-clause-memory g c = no_event_refused _ c.args.self.now.session _ (ap as_event c.in-Mark.is)
+
+pub returns-in-GotoMark-clause-memory : goal.returns-in-GotoMark-clause-memory
+returns-in-GotoMark-clause-memory g c = no_event_refused _ c.args.self.now.session _ (ap as_event c.in-GotoMark.is)
+
+pub returns-in-MarkAt-clause-memory : goal.returns-in-MarkAt-clause-memory
+returns-in-MarkAt-clause-memory g c = no_event_refused _ c.args.self.now.session _ (ap as_event c.in-MarkAt.is)
+
+pub returns-in-Same-clause-memory : goal.returns-in-Same-clause-memory
+returns-in-Same-clause-memory g c = no_event_refused _ c.args.self.now.session _ (ap as_event c.in-Same.is)
+
+pub returns-in-Origin-clause-memory : goal.returns-in-Origin-clause-memory
+returns-in-Origin-clause-memory g c = no_event_refused _ c.args.self.now.session _ (ap as_event c.in-Origin.is)
+
+pub returns-in_err-step-in-Writer-clause-memory : goal.returns-in_err-step-in-Writer-clause-memory
+returns-in_err-step-in-Writer-clause-memory g c = no_event_refused _ c.args.self.now.session _ (ap as_event c.in-Writer.is)
+
+pub returns-in-Step-clause-memory : goal.returns-in-Step-clause-memory
+returns-in-Step-clause-memory g c = no_event_refused _ c.args.self.now.session _ (ap as_event c.in-Step.is)
+
+pub returns-in-None-clause-memory : goal.returns-in-None-clause-memory
+returns-in-None-clause-memory g c = λ event is. grind arith
+
+pub returns-in-None-actor-clause-memory : goal.returns-in-None-actor-clause-memory
+returns-in-None-actor-clause-memory g c = λ event is. grind arith
