@@ -1,5 +1,4 @@
-"""Runs the built program itself: its options, exit statuses, standard error, traces, the script of
-each lesson, and the sessions of README and manual.
+"""Runs the built program itself: its options, exit statuses, standard error and traces.
 
     python3 tools/check.py statuses [--program P]
 
@@ -8,11 +7,9 @@ anything differs. Only Python's standard library is used.
 """
 
 import os
-import re
 import subprocess
 import tempfile
 from collections.abc import Iterator, Sequence
-from pathlib import Path
 from typing import IO
 
 from lcrq_tools import manual, program
@@ -245,51 +242,6 @@ def full_device(built: str, words: list[str], given: str) -> str:
         return write_fault(built, full, words, given)
 
 
-def table_of(lines: str, replies: list[str]) -> re.Pattern[str]:
-    """What the table of a page looks like: each line of a script beside its reply, and any words."""
-    pairs = zip(lines.splitlines(), replies, strict=True)
-    rows = "".join(re.escape(f"| `{line}` | `{reply}` |") + r"[^|\n]*\|\n" for line, reply in pairs)
-    return re.compile(re.escape("\n| Line | Reply | What happens |\n|---|---|---|\n") + rows + "\n")
-
-
-def has_each_reply(built: str, scripts: list[Path]) -> bool:
-    """Whether each line of two viewers has a reply."""
-    status, text, _ = run(built, ["view", *map(str, scripts)])
-    first, second = text.removeprefix("viewer 1\n").split("viewer 2\n")
-    counts = [len(first.splitlines()), len(second.splitlines()) - 1]
-    wanted = [len(script.read_text(encoding="ascii").splitlines()) for script in scripts]
-    return status == 0 and counts == wanted
-
-
-def is_as_report(built: str, script: Path, page: str = "") -> bool:
-    """Whether the replies to a script, over the trace of its name if there is one, are those of its
-    report, or those in a table of this page."""
-    lines, trace = script.read_text(encoding="ascii"), script.with_suffix(".trace")
-    words = ["load", str(trace)] if trace.exists() else ["run", "-"]
-    status, output, _ = run(built, words, lines)
-    if page:
-        return status == 0 and bool(table_of(lines, output.splitlines()).search(page))
-    return (status, output) == (0, script.with_suffix(".report").read_text(encoding="ascii"))
-
-
-def is_as_its_page_says(built: str, page: Path) -> bool:
-    """Whether the replies to a lesson's script are those beside it on its page; of two viewers,
-    whether each line has one."""
-    text = page.read_text(encoding="utf-8")
-    parts = [page.with_name(f"{page.stem}-{part}.script") for part in (1, 2)]
-    if "\nRun by two viewers.\n" in text:
-        return has_each_reply(built, parts)
-    if "\nRun over two starts.\n" in text:
-        return all(is_as_report(built, script, text) for script in parts)
-    if "\nRun over: " in text:
-        words = ["load", str(page.with_suffix(".trace"))]
-    else:
-        words = ["run", "-", "--ring", "2" if "\nRun with: --ring 2\n" in text else "4"]
-    lines = page.with_suffix(".script").read_text(encoding="ascii")
-    status, output, _ = run(built, words, lines)
-    return status == 0 and bool(table_of(lines, output.splitlines()).search(text))
-
-
 def help_fault(built: str) -> str:
     """Which lines and places the help of `run` leaves out or the manual does not have, or nothing."""
     _, text, _ = run(built, ["run", "--help"])
@@ -312,11 +264,6 @@ def all_checks(built: str) -> Iterator[tuple[str, str]]:
     yield "a full device", full_device(built, ["run", "-"], MANY)
     saving = ["load", str(EXAMPLES / "poised.trace"), "--trace"]
     yield "a full device for a saved session", full_device(built, saving, "")
-    for page in sorted(EXAMPLES.glob("[0-9]*.md")):
-        yield page.stem, "" if is_as_its_page_says(built, page) else "it is not as its page says"
-    for report in sorted(EXAMPLES.glob("*.report")):
-        script = report.with_suffix(".script")
-        yield report.stem, "" if is_as_report(built, script) else "it is not as its report"
 
 
 def main() -> int:
