@@ -127,8 +127,8 @@ fn operate_on_counter(
     operation: Operation,
 ) -> Result<Done, Refusal>
     requires { IsTrue (suits_array operation) }
-    ensures ok { IfOk result (λ done. OperatesOnContent place operation done (Content.Number counter.old)
-        (Content.Number counter.new)) }
+    ensures ok { IfOk result (λ done. OperatesOnContent place operation done
+        (Content.Number counter.old) (Content.Number counter.new)) }
     ensures err { IfErr result (λ e. operate place operation (Some (Content.Number counter.old))
         ≡ Err e) }
     ensures unchanged { OnErr result (counter.new ≡ counter.old) }

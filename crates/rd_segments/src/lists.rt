@@ -41,7 +41,8 @@ pub fn operate_in<const R: usize>(
         (contents_of_lists makers.old.items) (contents_of_lists makers.new.items)) }
     ensures err { IfErr result (λ e. operate place operation
         (operand (contents_of_lists makers.old.items) place) ≡ Err e) }
-    ensures unchanged { OnErr result (contents_of_lists makers.new.items ≡ contents_of_lists makers.old.items) }
+    ensures unchanged { OnErr result (contents_of_lists makers.new.items
+        ≡ contents_of_lists makers.old.items) }
     ensures room { KeepsMakersRoom (makers_room makers.old.items) (makers_room makers.new.items) }
 {
     let (maker, n) = (usize::from(name.maker), name.n as usize);
@@ -93,7 +94,8 @@ pub fn make_in<const R: usize>(
         (contents_of_lists makers.new.items)) }
     ensures err { IfErr result (λ e. RefusesMaking (segment_count makers.old.items maker)
         (room_of_maker makers.old.items maker) e) }
-    ensures unchanged { OnErr result (contents_of_lists makers.new.items ≡ contents_of_lists makers.old.items) }
+    ensures unchanged { OnErr result (contents_of_lists makers.new.items
+        ≡ contents_of_lists makers.old.items) }
     ensures room { UsesMakersRoom result true maker (makers_room makers.old.items)
         (makers_room makers.new.items) }
 {

@@ -34,8 +34,8 @@ impl<const R: usize> Session<R> {
         ensures makings { OnOk result (ActorsHaveRoom (journal self.new).world given.now
             (room_after_undoing (drop kept (journal self.new).live) (room self.new))) }
         ensures err { IfErr result (λ refusal. (refusal ≡ Refusal.NoMemory)
-            × LacksRoomToSwitch kept (journal self.old) given.now (capacity self.old) (room self.old)
-            (index self.old)) }
+            × LacksRoomToSwitch kept (journal self.old) given.now (capacity self.old)
+            (room self.old) (index self.old)) }
         ensures succeeds { given.now ≡ [] → IsOk result }
         ensures capacity { kept + length given.now ≤ capacity self.old
             → capacity self.new ≡ capacity self.old }
