@@ -1,6 +1,7 @@
 pub mod Prelude
 pub mod ResultLemmas
 pub mod LineLemmas
+pub mod ConversationLemmas
 pub mod ScriptLemmas
 pub mod TextLemmas
 pub mod PutLemmas
@@ -13,3 +14,4 @@ pub mod SpellingLemmas
 pub mod NameReadLemmas
 pub mod OneLemmas
 pub mod SayLemmas
+pub mod CallLemmas

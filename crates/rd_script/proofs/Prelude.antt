@@ -3,6 +3,7 @@
 pub use Rattle.std.proofs.KnownBytes.{Appends-kept, Appends-nil, Appends-trans, Consumes-nil, Consumes-trans}
 pub use Rattle.std.proofs.lemmas.Fmt.{IsAscii-decimal, decimal-digits_value, decimal_by_steps, decimal_digit, decimal_injective, first_decimal, parse-decimal}
 pub use Rattle.std.proofs.lemmas.Str.Parse.{numerals_by_value, parse_plain, tells_digits}
+pub use Rattle.std.specs.Prelude.{flat_map}
 pub use Rattle.std.specs.Str.Parse.{ParsesUnsigned}
 pub use Rattle.std.proofs.lemmas.Iterator.Splits.{YieldsList-from_slice_split}
 pub use Rattle.rd_cell.proofs.Prelude.{AllZip, Appends, Bool, Bor, cond, count_by, Consumes, Decides-eqb, Err, IfNone, IfSome, IsAtEnd, IsErrAnd, IsOkAnd, IsUtf8-from_ascii, Keeps, List, None, Ok, Option, Result, Some, YieldsList, YieldsList-end, YieldsList-turn, [], and_parts, ap, append-nil, append_assoc, arith, codes, common_steps, decimal, drop, eq-eqb, false, flat_map-append, get_or, if◌then◌else◌, inl, inr, is_some, join_with_byte, length, length-append, length-drop, length-map, list_all, list_all-append, map, map-append, nat_eq, nat_tests, ne_eqb, nil_from_length, not, onto_first, refl, rules, slice_index_or, slice_split, strip_suffix_is, subst, suc, sym, take, take-add, take-append-drop, take_rest, tests, true, true≢false, unwrap_or, ℕ, ◌%◌, ◌++◌, ◌+◌, ◌-◌, ◌<◌, ◌==◌, ◌^◌, ◌∙◌, ◌∷◌, ◌≡◌, ◌≢◌, ◌≤◌, ◌⊎◌}
@@ -14,13 +15,15 @@ pub use Rattle.rd_marks.specs.declared.books.Book.{Book}
 pub use Rattle.rd_marks.specs.declared.commands.Command.{Command}
 pub use Rattle.rd_marks.specs.declared.replies.Reply.{Reply}
 pub use Rattle.rd_script.specs.Answers.{AnswersParsedLine, AreObeyedLines, commands_of, line_answer, line_answers, report_of}
+pub use Rattle.rd_script.specs.Calls.{command_text}
 pub use Rattle.rd_script.specs.Contents.{segment_name_words}
+pub use Rattle.rd_script.specs.Conversation.{AreAnswered, CameToEnd, Converses, StoppedAtRead, WritesLine}
 pub use Rattle.rd_script.specs.Device.{GivesByte}
 pub use Rattle.rd_script.specs.Grammar.{AreArgumentsInRange, Argument, Byte, Choice, IsArgumentInRange, IsSegmentInRange, Kind, Long, Name, Segment, argument_words, arguments_of, keyword_of, keyword_text, kind_of, kind_text, names_after, place_arguments, word_of}
 pub use Rattle.rd_script.specs.Lines.{Holds, IsOneLine, ParsedLine, ReadsLast, ReadsNext, ended_lines_of, lines_of}
 pub use Rattle.rd_script.specs.Reading.{IsFaultOfNames, ReadsCommand}
 pub use Rattle.rd_script.specs.Replies.{LineAnswer, answer_text}
-pub use Rattle.rd_script.specs.Script.{RanToEnd, RunsScript, StoppedAtRead, WritesAnswer}
+pub use Rattle.rd_script.specs.Script.{BookAnswers, RunsScript}
 pub use Rattle.rd_script.specs.Spelling.{IsSameCommand, IsInRange, IsMisnamed, AreMisnamed, Says, is_word, most_line_bytes, spelling}
 pub use Rattle.rd_script.specs.Streams.{Devices, devices}
 pub use Rattle.rd_script.specs.Texts.{yes_or_no}

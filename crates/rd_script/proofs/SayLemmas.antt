@@ -18,7 +18,7 @@ few_names k = grind arith
 
 -- the words of a misnamed line
 misnamed_words : (line : List ℕ) (h : IsMisnamed line) → cut line ≡ keyword_text h.0 ∷ h.1
-misnamed_words line h = rw h.3 (parts_of_join 32 (keyword_text h.0) h.1 (free_keyword h.0, are_free_words h.1 h.2.1))
+misnamed_words line h = rw h.3 (parts_of_join 32 (keyword_text h.0) h.1 (free_keyword 32 (omega arith) h.0, are_free_words 32 (omega arith) h.1 h.2.1))
 
 -- a line of more than four words is bad
 pub too_many_words : (line : List ℕ) → length line ≤ most_line_bytes → 4 < length (slice_split (λ byte. byte == 32) line) → Says line (Err fault.BadLine)

@@ -15,6 +15,8 @@ pub mod Replies
 pub mod Headings
 pub mod Lines
 pub mod Answers
+pub mod Conversation
+pub mod Calls
 pub mod Script
 pub mod Ring
 pub mod AnyBook

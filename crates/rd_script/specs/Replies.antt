@@ -1,7 +1,6 @@
 -- The text of each answer: one line, ended by a line feed.
 use Rattle.std.specs.Option.{option_map_or}
 use Rattle.std.specs.Prelude.{ℕ, List, [], ◌∷◌, ◌++◌, codes, Option, Some, None, Result, Ok, Err}
-use Rattle.std.specs.Fmt.{decimal}
 use Rattle.rd_step.specs.Prelude.{OpReply}
 use Rattle.rd_origin.specs.declared.origins.Origin.{Origin}
 use Rattle.rd_marks.specs.Names.{bytes_of}
@@ -9,7 +8,7 @@ use Rattle.rd_marks.specs.declared.replies.Reply.{Reply}
 use Rattle.rd_marks.specs.declared.replies.Reply.TheVariants as reply
 use Rattle.rd_script.specs.declared.answers.AnyRefusal.{AnyRefusal}
 use Rattle.rd_script.specs.Grammar.{keyword_text, keyword_of_search}
-use Rattle.rd_script.specs.Texts.{spaced_number, yes_or_no}
+use Rattle.rd_script.specs.Texts.{number_or_hyphen, spaced_number, yes_or_no}
 use Rattle.rd_script.specs.Contents.{content_words}
 use Rattle.rd_script.specs.Actors.{actor_words}
 use Rattle.rd_script.specs.Steps.{result_words, step_words}
@@ -19,14 +18,10 @@ use Rattle.rd_script.specs.Refusals.{any_refusal_words}
 abbrev pub ended_call_words : Option OpReply → List ℕ
 ended_call_words o = option_map_or (λ r. codes " " ++ result_words r) o []
 
--- the words of a step's number, or a hyphen if there is no such step
-abbrev pub step_number_words : Option ℕ → List ℕ
-step_number_words o = option_map_or decimal o (codes "-")
-
 -- the words of an origin: the numbers of the call's first step, the put and the take
 abbrev pub origin_words : Origin → List ℕ
 origin_words origin =
-    codes "origin call " ++ step_number_words origin.call ++ codes " put " ++ step_number_words origin.put ++ codes " take" ++ spaced_number origin.take
+    codes "origin call " ++ number_or_hyphen origin.call ++ codes " put " ++ number_or_hyphen origin.put ++ codes " take" ++ spaced_number origin.take
 
 -- this word, a space, and the number, or `none` if there is no number
 abbrev pub number_or_none : List ℕ → Option ℕ → List ℕ

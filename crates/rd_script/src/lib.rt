@@ -11,8 +11,10 @@
 
 mod answers;
 mod any_book;
+mod conversation;
 mod devices;
 mod faults;
+pub mod laws;
 mod reading;
 mod rings;
 mod script;
@@ -20,14 +22,17 @@ mod writing;
 
 pub use answers::{AnyRefusal, LineAnswer};
 pub use any_book::AnyBook;
+pub use conversation::{Answerer, converse};
 pub use devices::sinks::{Sink, WriteSink, write_all};
 pub use devices::sources::{ReadSource, Source};
 pub use faults::{LineFault, ScriptFault};
 pub use reading::commands::command_in;
 pub use reading::keywords::FORMS;
+pub use reading::lines::Line;
 pub use reading::whole_texts::{ParsedLine, lines, spelled_commands};
 pub use rings::Ring;
 pub use script::run;
+pub use writing::commands::set_call;
 pub use writing::headings::{Heading, set_heading};
-pub use writing::lines::{set_answer, write_answer};
+pub use writing::lines::{set_answer, set_numbered_answer, write_answer};
 pub use writing::texts::Text;

@@ -1,26 +1,23 @@
 //! A script: each line is read, obeyed and answered before the next one is read.
 
-ghost use Rattle.std.specs.Prelude.{◌≡◌, ℕ, List, Result, true, false, OnOk, OnErr, IfErr};
+ghost use Rattle.std.specs.Prelude.{◌≡◌, Result, false, IfErr};
 ghost use Rattle.std.specs.Result.{ForErr};
 ghost use Rattle.rd_cell.specs.declared.refusal.Refusal.{Refusal};
 ghost use Rattle.rd_journal.specs.Sessions.{journal, MayRefuse};
-ghost use Rattle.rd_marks.specs.declared.commands.Command.{Command as SomeCommand};
 ghost use Rattle.rd_marks.specs.declared.replies.Reply.{Reply};
 ghost use Rattle.rd_marks.specs.Book.{book_state, session_of, MayRefuseIfGoto};
 ghost use Rattle.rd_marks.specs.Commands.{IsEventAnswer, IsObeyed};
 ghost use Rattle.rd_script.specs.Streams.{devices};
-ghost use Rattle.rd_script.specs.Lines.{Holds};
-ghost use Rattle.rd_script.specs.declared.faults.LineFault.{LineFault};
-ghost use Rattle.rd_script.specs.Spelling.{Says};
-ghost use Rattle.rd_script.specs.Replies.{LineAnswer as SomeAnswer, answer_text};
-ghost use Rattle.rd_script.specs.Answers.{AnswersParsedLine, line_answer};
-ghost use Rattle.rd_script.specs.Script.{WritesAnswer, RunsScript};
+ghost use Rattle.rd_script.specs.Replies.{answer_text};
+ghost use Rattle.rd_script.specs.Answers.{line_answer};
+ghost use Rattle.rd_script.specs.Script.{BookAnswers, RunsScript};
 
-use super::answers::AnyRefusal;
-use super::devices::sinks::{Sink, write_all};
+use super::answers::{AnyRefusal, LineAnswer};
+use super::conversation::{Answerer, converse};
+use super::devices::sinks::Sink;
 use super::devices::sources::Source;
 use super::faults::ScriptFault;
-use super::reading::lines::{Line, Reading};
+use super::reading::lines::Line;
 use super::writing::lines::{set_event_reply, set_refusal, set_reply};
 use super::writing::texts::Text;
 use rd_marks::{Book, Command};
@@ -51,58 +48,28 @@ pub fn run<S: Source, K: Sink, const R: usize>(
         (devices S.Source K.Sink reader.old reader.new writer.old writer.new) result }
     ensures start { (book_state book.new).session.start ≡ (book_state book.old).session.start }
 {
-    let mut line = Line::new();
-    let mut text = Text::new();
-    for done in 0..u64::MAX {
-        match line.read_next(reader)? {
-            Reading::End => return Ok(done),
-            Reading::Last => {
-                do_line(book, &line, &mut text, writer)?;
-                return Ok(done + 1);
-            }
-            Reading::Ended => do_line(book, &line, &mut text, writer)?,
+    converse(reader, writer, book)
+}
+
+impl<const R: usize> Answerer for Book<R> {
+    type Answer = LineAnswer;
+
+    ghost can_answer = { λ book. Unit {0} };
+
+    ghost text_of = { λ answer. answer_text answer };
+
+    ghost answers = { λ old line answer new. BookAnswers old line answer new };
+
+    /// Obeys a line, if it spells a command, and replaces the text by the line of its answer. If it
+    /// spells none, the answer is the refusal of its fault, and the book stays as it is.
+    fn answer(&mut self, line: &Line, text: &mut Text) {
+        match line.command() {
+            Err(fault) => set_refusal(text, &AnyRefusal::Unread(fault)),
+            Ok(command) => match command.as_event() {
+                Some(event) => answer_event(self, event, text),
+                None => answer_command(self, command, text),
+            },
         }
-    }
-    Err(ScriptFault::Read)
-}
-
-/// Obeys a line and writes its answer, whose line is made in the buffer `text`. Fails with `Write`
-/// if the writer fails or takes nothing; the line was then obeyed, and the writer has taken a
-/// beginning of the answer's line. The writer must not have failed before.
-fn do_line<K: Sink, const R: usize>(
-    book: &mut Book<R>,
-    line: &Line,
-    text: &mut Text,
-    writer: &mut K,
-) -> Result<(), ScriptFault>
-    requires { K.has_failed writer.old ≡ false }
-    ensures does { (text : List ℕ) → Holds line.now text
-        → (said : Result SomeCommand LineFault) × (answer : SomeAnswer) × Says text said
-        × AnswersParsedLine (book_state book.old) said answer (book_state book.new)
-        × WritesAnswer (K.contents writer.old) (K.contents writer.new) answer result }
-    ensures start { (book_state book.new).session.start ≡ (book_state book.old).session.start }
-    ensures works { OnOk result (K.has_failed writer.new ≡ false) }
-    ensures fails { OnErr result (K.has_failed writer.new ≡ true) }
-{
-    answer_line(book, line, text);
-    write_all(writer, text.as_slice())
-}
-
-/// Obeys a line, if it spells a command, and replaces the text by the line of its answer. If it
-/// spells none, the answer is the refusal of its fault, and the book stays as it is.
-fn answer_line<const R: usize>(book: &mut Book<R>, line: &Line, text: &mut Text)
-    ensures answers { (bytes : List ℕ) → Holds line.now bytes
-        → (said : Result SomeCommand LineFault) × (answer : SomeAnswer) × Says bytes said
-        × AnswersParsedLine (book_state book.old) said answer (book_state book.new)
-        × (text.new.items ≡ answer_text answer) }
-    ensures start { (book_state book.new).session.start ≡ (book_state book.old).session.start }
-{
-    match line.command() {
-        Err(fault) => set_refusal(text, &AnyRefusal::Unread(fault)),
-        Ok(command) => match command.as_event() {
-            Some(event) => answer_event(book, event, text),
-            None => answer_command(book, command, text),
-        },
     }
 }
 

@@ -5,6 +5,7 @@
 //! that are returned or appended. A function that replaces the text (`set_..`) always has room.
 
 mod actors;
+pub mod commands;
 mod contents;
 mod events;
 pub mod headings;

@@ -8,9 +8,11 @@ ghost use Rattle.std.specs.Prelude.{◌≡◌, [], ◌∷◌, Ok, Err, IfErr, On
 ghost use Rattle.std.specs.Io.KnownBytes.{Appends};
 ghost use Rattle.rd_marks.specs.Events.{as_reply};
 ghost use Rattle.rd_script.specs.Device.{TakesBeginning};
-ghost use Rattle.rd_script.specs.Puts.{Puts};
-ghost use Rattle.rd_script.specs.Replies.{answer_text};
+ghost use Rattle.rd_script.specs.Calls.{numbered_text};
+ghost use Rattle.rd_script.specs.Puts.{Puts, PutsUpTo};
+ghost use Rattle.rd_script.specs.Replies.{answer_text, answer_words};
 
+use super::numbers::put_number_or_hyphen;
 use super::refusals::put_any_refusal;
 use super::replies::{put_event_reply, put_reply};
 use super::texts::{Text, put};
@@ -73,9 +75,38 @@ pub fn set_refusal(text: &mut Text, refusal: &AnyRefusal)
     ensures { text.new.items ≡ answer_text (Err refusal.now) }
 {
     text.clear();
+    put_refusal(text, refusal);
+    end_line(text);
+}
+
+/// Replaces the text by the line of an answer, with the number of the call that it answers before
+/// it, or a hyphen if the line was no call.
+pub fn set_numbered_answer(text: &mut Text, call: Option<u64>, answer: &LineAnswer)
+    ensures { text.new.items ≡ numbered_text call answer.now }
+{
+    text.clear();
+    put_number_or_hyphen(text, call);
+    put(text, b" ");
+    put_answer(text, answer);
+    end_line(text);
+}
+
+/// Appends to the text the words of an answer, without a line feed.
+fn put_answer(text: &mut Text, answer: &LineAnswer)
+    ensures { PutsUpTo 400 text.old.items text.new.items (answer_words answer.now) }
+{
+    match answer {
+        Ok(reply) => put_reply(text, reply),
+        Err(refusal) => put_refusal(text, refusal),
+    }
+}
+
+/// Appends to the text the words of a refusal, without a line feed.
+fn put_refusal(text: &mut Text, refusal: &AnyRefusal)
+    ensures { PutsUpTo 108 text.old.items text.new.items (answer_words (Err refusal.now)) }
+{
     put(text, b"refused ");
     put_any_refusal(text, refusal);
-    end_line(text);
 }
 
 /// Appends to the text the line feed that ends its line.

@@ -4,7 +4,7 @@
 ghost use Rattle.std.specs.Prelude.{◌≡◌, ◌≤◌, ◌++◌, length};
 ghost use Rattle.std.specs.Fmt.{decimal};
 ghost use Rattle.rd_script.specs.Puts.{Puts, PutsUpTo};
-ghost use Rattle.rd_script.specs.Texts.{spaced_number, bit_number, yes_or_no};
+ghost use Rattle.rd_script.specs.Texts.{spaced_number, number_or_hyphen, bit_number, yes_or_no};
 
 use super::texts::{Text, put};
 use itoa::Buffer;
@@ -15,6 +15,16 @@ pub fn put_number(text: &mut Text, number: u64)
 {
     let mut digits = Buffer::new();
     put(text, digits.format(number).as_bytes());
+}
+
+/// Appends to the text a number, or a hyphen if there is none.
+pub fn put_number_or_hyphen(text: &mut Text, number: Option<u64>)
+    ensures { PutsUpTo 20 text.old.items text.new.items (number_or_hyphen number) }
+{
+    match number {
+        None => put(text, b"-"),
+        Some(number) => put_number(text, number),
+    }
 }
 
 /// Appends to the text a space and a number.

@@ -4,11 +4,11 @@ ghost use Rattle.std.specs.Prelude.{◌≤◌, ◌+◌, length};
 ghost use Rattle.rd_marks.specs.Names.{bytes_of};
 ghost use Rattle.rd_marks.specs.Events.{as_reply};
 ghost use Rattle.rd_script.specs.Puts.{Puts, PutsUpTo};
-ghost use Rattle.rd_script.specs.Replies.{ended_call_words, step_number_words, origin_words, number_or_none, reply_words};
+ghost use Rattle.rd_script.specs.Replies.{ended_call_words, origin_words, number_or_none, reply_words};
 
 use super::actors::put_actor;
 use super::contents::put_content;
-use super::numbers::{put_number, put_spaced_number, put_words_and_number, yes_or_no};
+use super::numbers::{put_number_or_hyphen, put_spaced_number, put_words_and_number, yes_or_no};
 use super::steps::{put_result, put_step};
 use super::texts::{Text, put};
 use crate::reading::keywords::Keyword;
@@ -79,20 +79,10 @@ fn put_origin(text: &mut Text, origin: Origin)
     ensures { PutsUpTo 90 text.old.items text.new.items (origin_words origin) }
 {
     put(text, b"origin call ");
-    put_step_number(text, origin.call);
+    put_number_or_hyphen(text, origin.call);
     put(text, b" put ");
-    put_step_number(text, origin.put);
+    put_number_or_hyphen(text, origin.put);
     put_words_and_number(text, b" take", origin.take);
-}
-
-/// Appends to the text the number of a step, or a hyphen if there is no such step.
-fn put_step_number(text: &mut Text, step: Option<u64>)
-    ensures { PutsUpTo 20 text.old.items text.new.items (step_number_words step) }
-{
-    match step {
-        None => put(text, b"-"),
-        Some(number) => put_number(text, number),
-    }
 }
 
 /// Appends to the text this word, a space, and the number, or `none` if there is no number.
@@ -111,7 +101,7 @@ fn put_number_or_none(text: &mut Text, word: &[u8], number: Option<u64>)
 
 /// Appends to the text a bookmark's name.
 #[tactic(auto, using(crate::proofs::NameLemmas::length_mark_name))]
-fn put_mark_name(text: &mut Text, name: MarkName)
+pub fn put_mark_name(text: &mut Text, name: MarkName)
     ensures { PutsUpTo 16 text.old.items text.new.items (bytes_of name) }
 {
     put(text, name.as_str().as_bytes());
