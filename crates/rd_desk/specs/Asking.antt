@@ -1,5 +1,6 @@
 -- What a viewer knows after a call.
-use Rattle.std.specs.Prelude.{◌≡◌, ◌^◌, ℕ, List, IfErr, Err}
+use Rattle.std.specs.Prelude.{◌≡◌, ◌^◌, ℕ, List, length, IfErr, Result, Ok, Err, Some}
+use Rattle.rd_cell.specs.declared.refusal.Refusal.{Refusal}
 use Rattle.rd_lock.specs.declared.views.Recorded.{Ghosts}
 use Rattle.rd_lock.specs.declared.passes.Pass.{Pass}
 use Rattle.rd_lock.specs.declared.tickets.TryTakeError.TheVariants as missed
@@ -7,15 +8,27 @@ use Rattle.rd_lock.specs.Histories.{Continues}
 use Rattle.rd_lock.specs.Locks.{number, seen, next_seen, KnowsNoLess, IsMissed}
 use Rattle.rd_marks.specs.BookState.{BookState}
 use Rattle.rd_marks.specs.declared.commands.Command.{Command}
+use Rattle.rd_marks.specs.declared.replies.Reply.{Reply}
+use Rattle.rd_step.specs.Lists.{numbered}
 use Rattle.rd_desk.specs.declared.gates.DeskRefusal.{DeskRefusal}
 use Rattle.rd_desk.specs.declared.gates.DeskRefusal.TheVariants.{TicketsEnded, Busy}
 use Rattle.rd_desk.specs.declared.histories.Call.{Call}
-use Rattle.rd_desk.specs.Histories.{Answer, IsLegal, LeavesHistory}
+use Rattle.rd_desk.specs.Histories.{Answer, viewer_entry, IsLegal, LeavesHistory}
 
 -- the refusal is not `Busy`, which only a call that never waits returns
 abbrev pub IsRefusalOfAsk : DeskRefusal → Type 0
 IsRefusalOfAsk (Busy words) = ⊥
 IsRefusalOfAsk _ = Unit {0}
+
+-- the answer to a call without the call's number
+abbrev pub without_number : Result (ℕ × Result Reply Refusal) DeskRefusal → Answer
+without_number (Ok call) = Ok call.1
+without_number (Err refusal) = Err refusal
+
+-- the history ends with this viewer's call of the command, and the call has this number there
+-- (`.0`) and this answer (`.1`). So all calls that came before it are before it there
+abbrev pub IsLastCall : List (ℕ × Call) → ℕ → Command → ℕ × Result Reply Refusal → Type 0
+IsLastCall history viewer command call = (call.0 ≡ length history) × (numbered history call.0 ≡ Some (viewer_entry viewer command call.1))
 
 module _ (opened : BookState) where
   -- what a call adds to the history that the viewer of this number has seen, from `old` to `new`. A

@@ -4,3 +4,4 @@ pub mod Asking
 pub mod Viewers
 pub mod Rooms
 pub mod Threads
+pub mod Tasks

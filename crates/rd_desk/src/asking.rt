@@ -4,13 +4,13 @@
 //! puts the book back. It takes effect where it puts the book back, with the one fetch-and-add on
 //! the lock's word `served`.
 
-ghost use Rattle.std.specs.Prelude.{◌≡◌, ◌^◌, Err, IfErr};
-ghost use Rattle.rd_lock.specs.Locks.{next_seen, IsPassOf, IsTaken};
+ghost use Rattle.std.specs.Prelude.{◌≡◌, ◌^◌, Err, IfErr, IfOk};
+ghost use Rattle.rd_lock.specs.Locks.{number, seen, next_seen, IsPassOf, IsTaken};
 ghost use Rattle.rd_desk.specs.Desks.{opened_state, viewers, IsViewerOf};
-ghost use Rattle.rd_desk.specs.Asking.{KnowsAfterAsk, KnowsAfterCall, IsRefusalOfAsk};
+ghost use Rattle.rd_desk.specs.Asking.{KnowsAfterAsk, KnowsAfterCall, IsLastCall, IsRefusalOfAsk, without_number};
 
 use super::desks::{Desk, DeskPass};
-use super::gates::{Answer, DeskRefusal};
+use super::gates::{Answer, DeskRefusal, NumberedAnswer};
 use super::recording::BookWithHistory;
 use rd_lock::TryTakeError;
 use rd_marks::Command;
@@ -19,18 +19,40 @@ use std::sync::Wait;
 impl<const R: usize> Desk<R> {
     ghost use Rattle.rd_desk.specs.declared.gates.DeskRefusal.TheVariants.{TicketsEnded};
 
-    /// Asks one command and returns the book's answer, which may be a refusal. It waits for the
-    /// viewers that drew a ticket before. The pass must be one of this desk, and in no call.
+    /// Asks one command as `ask_numbered` does, with the same refusals, and returns the book's
+    /// answer alone.
+    ///
+    /// # Errors
+    ///
+    /// Those of `ask_numbered`.
+    pub fn ask<W: Wait>(&self, rt: &W, pass: &mut DeskPass<R>, command: Command) -> Answer
+        requires own { IsViewerOf self.now pass.old }
+        ensures own { IsViewerOf self.now pass.new }
+        ensures outcome { KnowsAfterAsk (opened_state self.now) pass.old pass.new command result }
+    {
+        without_number(self.ask_numbered(rt, pass, command))
+    }
+
+    /// Asks one command. Returns the number of this call in the history, from 1, and the book's
+    /// answer, which may be a refusal. It waits for the viewers that drew a ticket before. The pass
+    /// must be one of this desk, and in no call.
     ///
     /// # Errors
     ///
     /// `TicketsEnded` if this pass saw that all tickets of the lock are drawn. Otherwise, in this
     /// order: `HistoryFull` if the history has `MOST_CALLS` calls; `NotRecorded` if its list is
     /// full and memory for a longer one was refused. The book doesn't do the command then.
-    pub fn ask<W: Wait>(&self, rt: &W, pass: &mut DeskPass<R>, command: Command) -> Answer
+    pub fn ask_numbered<W: Wait>(
+        &self,
+        rt: &W,
+        pass: &mut DeskPass<R>,
+        command: Command,
+    ) -> NumberedAnswer
         requires own { IsViewerOf self.now pass.old }
         ensures own { IsViewerOf self.now pass.new }
-        ensures outcome { KnowsAfterAsk (opened_state self.now) pass.old pass.new command result }
+        ensures outcome { KnowsAfterAsk (opened_state self.now) pass.old pass.new command
+            (without_number result) }
+        ensures number { IfOk result (IsLastCall (seen pass.new) (number pass.old) command) }
     {
         match self.lock.take(rt, pass) {
             Ok(kept) => self.obey_and_put_back(pass, kept, command),
@@ -55,14 +77,14 @@ impl<const R: usize> Desk<R> {
         ensures succeeds { viewers self.now ≡ 1 → IfErr result IsRefusalOfAsk }
     {
         match self.lock.try_take(pass) {
-            Ok(kept) => self.obey_and_put_back(pass, kept, command),
+            Ok(kept) => without_number(self.obey_and_put_back(pass, kept, command)),
             Err(TryTakeError::Busy(words)) => Err(DeskRefusal::Busy(words)),
             Err(TryTakeError::TicketsEnded) => Err(DeskRefusal::TicketsEnded),
         }
     }
 
     /// Lets the book do the command, records the call, puts the book back into the lock, and
-    /// returns the book's answer. The pass must be one of this desk and hold the lock, and `kept`
+    /// returns the call's number and the book's answer. The pass must be one of this desk and hold the lock, and `kept`
     /// must be what it took from there, unchanged. Fails with `HistoryFull` or `NotRecorded` if the
     /// call can't be recorded; the book doesn't do the command then, and is put back too.
     fn obey_and_put_back(
@@ -70,15 +92,39 @@ impl<const R: usize> Desk<R> {
         pass: &mut DeskPass<R>,
         mut kept: BookWithHistory<R>,
         command: Command,
-    ) -> Answer
+    ) -> NumberedAnswer
         requires own { IsPassOf self.now.lock pass.old }
         requires taken { IsTaken self.now.lock pass.old pass.old kept }
         ensures own { IsViewerOf self.now pass.new }
-        ensures outcome { KnowsAfterCall (opened_state self.now) pass.old pass.new command result }
+        ensures outcome { KnowsAfterCall (opened_state self.now) pass.old pass.new command
+            (without_number result) }
+        ensures number { IfOk result (IsLastCall (seen pass.new) (number pass.old) command) }
         ensures never_busy { IfErr result IsRefusalOfAsk }
     {
         let answer = kept.obey_and_record(pass.number(), &command);
+        let calls = kept.history.len();
         self.lock.put_back(pass, kept);
-        answer
+        with_number(calls, answer)
+    }
+}
+
+/// Returns the answer to the call of this number, with the number if the desk didn't refuse it.
+fn with_number(number: u64, answer: Answer) -> NumberedAnswer
+    ensures answer { without_number result ≡ answer }
+    ensures number { IfOk result (λ call. call.0 ≡ number) }
+{
+    match answer {
+        Ok(answer) => Ok((number, answer)),
+        Err(refusal) => Err(refusal),
+    }
+}
+
+/// Returns the answer to a call without the call's number.
+fn without_number(numbered: NumberedAnswer) -> Answer
+    ensures { result ≡ without_number numbered }
+{
+    match numbered {
+        Ok((_, answer)) => Ok(answer),
+        Err(refusal) => Err(refusal),
     }
 }

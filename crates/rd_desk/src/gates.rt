@@ -25,6 +25,10 @@ pub enum DeskRefusal {
 /// The answer to a viewer's call: the book's answer to the command, or the desk's refusal.
 pub type Answer = Result<Result<Reply, Refusal>, DeskRefusal>;
 
+/// The answer to a viewer's call with the call's number in the history, from 1; or the desk's
+/// refusal, which no call has.
+pub type NumberedAnswer = Result<(u64, Result<Reply, Refusal>), DeskRefusal>;
+
 /// Something that viewers can ask, each with its own pass.
 pub trait Gate {
     /// A viewer's right to ask.

@@ -51,6 +51,13 @@ impl History {
         self.entries.get(number as usize - 1).copied()
     }
 
+    /// Returns the calls in order, each with the number of its viewer.
+    pub fn calls(&self) -> &[(u64, Call)]
+        ensures { result.now ≡ entries self.now }
+    {
+        self.entries.as_slice()
+    }
+
     /// Makes room for one more call, if there is none: the list grows by as many calls as it has,
     /// and at least by `FIRST_ROOM`. Fails only if memory is refused, and the list stays full then.
     /// The list must have room for no call, or for 4 times a power of 2, and so it has afterwards.

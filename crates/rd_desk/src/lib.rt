@@ -13,12 +13,14 @@ mod histories;
 pub mod laws;
 mod recording;
 mod rooms;
+mod tasks;
 mod threads;
 mod viewers;
 
 pub use desks::{Desk, DeskPass, MOST_VIEWERS};
-pub use gates::{Answer, DeskRefusal, Gate};
+pub use gates::{Answer, DeskRefusal, Gate, NumberedAnswer};
 pub use histories::{Call, History, MOST_CALLS};
 pub use rd_lock::{Busy, NoMemory};
 pub use recording::BookWithHistory;
+pub use tasks::{Task, run_tasks};
 pub use viewers::{Ran, ask_viewers, run_viewers};

@@ -1,5 +1,5 @@
 -- What passes know after a chain of calls, and how the history that leaves the desk agrees with it.
-use Rattle.rd_view.proofs.Prelude.{◌≡◌, ◌∙◌, ◌^◌, ℕ, suc, List, [], ◌∷◌, ◌++◌, Ok, Err, IfErr, Option, Some, None, Vec, map, length, refl, ap, subst, append_assoc, AllByRecursion, AllZip, Answer, AreAnswered, Book, BookState, BookWithHistory, Call, Command, Continues, Desk, Ghosts, Global, History, IsChain, IsNewViewer, IsRefusalOfAsk, IsDone, SeesAfter, IsViewerOf, KnowsAfterAsk, KnowsWords, ParsedLine, Pass, TicketsStayEnded, TicketsEnded, AskedAll, append-nil, recorded_calls, commands_of, entries, map-append, put_by, next_seen, number, numbers_from, opened_state, own_answered, own_refused, own_same, seen}
+use Rattle.rd_view.proofs.Prelude.{◌≡◌, ◌∙◌, ◌^◌, ℕ, suc, List, [], ◌∷◌, ◌++◌, Ok, Err, IfErr, Option, Some, None, Vec, map, length, refl, ap, subst, append_assoc, AllByRecursion, AllZip, Answer, AreAllAnswered, Book, BookState, BookWithHistory, Call, Command, Continues, Desk, Ghosts, Global, History, IsChain, IsNewViewer, IsRefusalOfAsk, IsDone, SeesAfter, IsViewerOf, KnowsAfterAsk, KnowsWords, ParsedLine, Pass, TicketsStayEnded, TicketsEnded, AskedAll, append-nil, recorded_calls, commands_of, entries, map-append, put_by, next_seen, number, numbers_from, opened_state, own_answered, own_refused, own_same, seen}
 
 module _ (opened : BookState) where
   -- after a chain of calls, the viewer's own calls have grown by those that were recorded
@@ -58,7 +58,7 @@ module _ (R : ℕ) (K : Ghosts (BookWithHistory R) Call (Book R)) (desk : Desk R
   new_are_viewers (viewer ∷ work) new = ((new.0.is_pass, new.0.is_out), new_are_viewers work new.1)
 
   -- a new viewer whose pass went through a chain of calls was answered as `AskedAll` says
-  was_answered : (history : History) (n : ℕ) (first last : ViewPass) (commands : List Command) (answers : List Answer)
+  pub was_answered : (history : History) (n : ℕ) (first last : ViewPass) (commands : List Command) (answers : List Answer)
       → IsNewViewer desk first → number first ≡ n → IsChain told first commands answers last → Continues (number last) (seen last) (entries history)
       → AskedAll (opened_state desk) (entries history) n commands answers
   was_answered history n first last commands answers new is chain on =
@@ -74,11 +74,11 @@ module _ (R : ℕ) (K : Ghosts (BookWithHistory R) Call (Book R)) (desk : Desk R
         ended = all.3;
       }
 
-  -- all viewers from this number on were answered as `AreAnswered` says
+  -- all viewers from this number on were answered as `AreAllAnswered` says
   pub all_answered : (history : History) (n : ℕ) (work : List (ViewPass × Vec Command Global)) (dones : List Done) (said : List (Vec ParsedLine Global))
       → AllZip Gives work dones → AllByRecursion (IsNewViewer desk) (map (λ viewer. viewer.0) work) → map number (map (λ viewer. viewer.0) work) ≡ numbers_from n (length said)
       → map (λ viewer. viewer.1.items) work ≡ map (λ lines. commands_of lines.items) said → AllByRecursion (λ pass. Continues (number pass) (seen pass) (entries history)) (map (λ done. done.0) dones)
-      → AreAnswered (opened_state desk) (entries history) n said (map (λ done. done.1) dones)
+      → AreAllAnswered (opened_state desk) (entries history) n said (map (λ done. done.1) dones)
   all_answered history n [] [] [] pairs new is read knows = tt
   all_answered history n [] [] (lines ∷ said) pairs new is read knows = cc
   all_answered history n (viewer ∷ work) (done ∷ dones) [] pairs new is read knows = cc

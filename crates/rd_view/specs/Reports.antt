@@ -1,15 +1,18 @@
 -- The text of a view: for each viewer a heading and the answers to its lines, and last the number
 -- of recorded calls.
-use Rattle.std.specs.Prelude.{ℕ, ◌+◌, List, [], ◌∷◌, ◌++◌, map, Option, Some, None, Ok, Err, Vec}
+use Rattle.std.specs.Prelude.{ℕ, ◌+◌, List, [], ◌∷◌, ◌++◌, flat_map, map, Option, Some, None, Ok, Err, Vec}
 use Rattle.std.specs.Global.{Global}
 use Rattle.rd_desk.specs.declared.gates.DeskRefusal.TheVariants as desk
 use Rattle.rd_desk.specs.Histories.{Answer}
+use Rattle.rd_desk.specs.declared.histories.Call.{Call}
 use Rattle.rd_script.specs.declared.answers.AnyRefusal.TheVariants.{Refused, HistoryFull, TicketsEnded, Busy, NotRecorded}
 use Rattle.rd_script.specs.declared.writing.headings.Heading.TheVariants.{Viewer, History}
 use Rattle.rd_script.specs.Answers.{line_answers, report_of}
+use Rattle.rd_script.specs.Calls.{call_text, command_text}
 use Rattle.rd_script.specs.Headings.{heading_text}
 use Rattle.rd_script.specs.Lines.{ParsedLine}
 use Rattle.rd_script.specs.Replies.{LineAnswer, answer_text}
+use Rattle.rd_script.specs.Spelling.{Says, spelling}
 use Rattle.rd_cell.specs.declared.refusal.Refusal.TheVariants as refusal
 
 -- the answer to a line, from the desk's answer to the line's command
@@ -34,3 +37,16 @@ abbrev pub viewers_text : ℕ → List (Vec ParsedLine Global) → List (Option 
 viewers_text number (said ∷ others) (answered ∷ more) calls = viewer_text number said.items answered ++ viewers_text (number + 1) others more calls
 viewers_text number [] answered calls = heading_text (History calls)
 viewers_text number (said ∷ others) [] calls = heading_text (History calls)
+
+-- the lines of a history: for each call its viewer's number, a space, and the line that spells its
+-- command
+abbrev pub history_text : List (ℕ × Call) → List ℕ
+history_text es = flat_map (λ e. call_text e.0 e.1.command) es
+
+-- the same lines without the viewers' numbers: one script of all calls, in their order
+abbrev pub script_text : List (ℕ × Call) → List ℕ
+script_text es = flat_map command_text (map (λ e. e.1.command) es)
+
+-- the line that spells the command of this call is read as that command
+abbrev pub SpellsItsCommand : ℕ × Call → Type 0
+SpellsItsCommand e = Says (spelling e.1.command) (Ok e.1.command)

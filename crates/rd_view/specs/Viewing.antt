@@ -9,7 +9,7 @@ use Rattle.rd_lock.specs.Histories.{put_by, Continues, NamesUpTo}
 use Rattle.rd_desk.specs.declared.gates.DeskRefusal.TheVariants.{TicketsEnded}
 use Rattle.rd_desk.specs.declared.histories.Call.{Call}
 use Rattle.rd_desk.specs.declared.histories.History.{History}
-use Rattle.rd_desk.specs.Histories.{Answer, entries, IsLegal}
+use Rattle.rd_desk.specs.Histories.{Answer, entries, IsLeftBy, IsLegal}
 use Rattle.rd_desk.specs.Asking.{SeesAfter, IsRefusalOfAsk}
 use Rattle.rd_desk.specs.Viewers.{IsChain}
 use Rattle.std.specs.List.{AllByRecursion, AllZip}
@@ -19,6 +19,7 @@ use Rattle.rd_script.specs.Lines.{ParsedLine, lines_of}
 use Rattle.rd_script.specs.Spelling.{Says}
 use Rattle.rd_script.specs.Streams.{GetsNothing, Stream}
 use Rattle.rd_view.specs.declared.faults.ViewFault.{ViewFault}
+use Rattle.rd_view.specs.declared.viewing.Viewed.{Viewed}
 use Rattle.rd_view.specs.declared.faults.ViewFault.TheVariants as view
 use Rattle.rd_view.specs.Reports.{viewers_text}
 
@@ -68,11 +69,11 @@ module _ (opened : BookState) (history : List (ℕ × Call)) where
 
   -- the viewers from this number on got these answers to the commands of their lines, with one list
   -- of lines and one of answers for each
-  abbrev pub AreAnswered : ℕ → List (Vec ParsedLine Global) → List (Option (Vec Answer Global)) → Type 0
-  AreAnswered viewer [] [] = Unit {0}
-  AreAnswered viewer (said ∷ others) (answered ∷ more) = IsAnswered viewer (commands_of said.items) answered × AreAnswered (suc viewer) others more
-  AreAnswered viewer [] (answered ∷ more) = ⊥
-  AreAnswered viewer (said ∷ others) [] = ⊥
+  abbrev pub AreAllAnswered : ℕ → List (Vec ParsedLine Global) → List (Option (Vec Answer Global)) → Type 0
+  AreAllAnswered viewer [] [] = Unit {0}
+  AreAllAnswered viewer (said ∷ others) (answered ∷ more) = IsAnswered viewer (commands_of said.items) answered × AreAllAnswered (suc viewer) others more
+  AreAllAnswered viewer [] (answered ∷ more) = ⊥
+  AreAllAnswered viewer (said ∷ others) [] = ⊥
 
 module _ (opened : BookState) where
   -- the history is legal from the book that was opened, each of its entries names one of the
@@ -80,7 +81,7 @@ module _ (opened : BookState) where
   pub record IsViewed (said : List (Vec ParsedLine Global)) (answered : List (Option (Vec Answer Global))) (history : List (ℕ × Call)) : Type 0 where
     pub legal : IsLegal opened history
     pub named : NamesUpTo (length said) history
-    pub are_answered : AreAnswered opened history 1 said answered
+    pub are_answered : AreAllAnswered opened history 1 said answered
 
   -- a view of these scripts with this history: what their lines spell, and the answers to the
   -- viewers, which agree with the history
@@ -93,6 +94,13 @@ module _ (opened : BookState) where
   -- the text of a view: each viewer's heading and answers, and the number of calls in its history
   abbrev pub view_text : {scripts : List (Vec ℕ Global)} {history : List (ℕ × Call)} → ViewOf scripts history → List ℕ
   view_text {history = history} views = viewers_text 1 views.said views.answered (length history)
+
+  -- what the viewers of these scripts left: a history with the text of its view, and the book to
+  -- which this history led
+  pub record IsMadeBy {N : ℕ} (scripts : List (Vec ℕ Global)) (viewed : Viewed N) : Type 0 where
+    pub views : ViewOf scripts (entries viewed.history)
+    pub text : viewed.text.items ≡ view_text views
+    pub leaves : IsLeftBy opened (entries viewed.history) viewed.book
 
   -- what became of a view of these scripts, by its result: its text was written whole; or the
   -- writer failed (`Write`), and took a beginning of it; or nothing was written, at `NoMemory` or

@@ -1,17 +1,23 @@
 //! The text of a view: for each viewer a heading and the answers to its lines, and last the number
 //! of recorded calls.
 //!
+//! The lines of a history can follow, so that it can be run again as one script.
+//!
 //! The whole text is made in memory before any of it is handed to a writer. One buffer holds each
 //! line in turn, before it is appended to the text.
 
 ghost use Rattle.std.specs.Prelude.{◌≡◌, ◌++◌, length, map, IfOk, OnOk};
 ghost use Rattle.rd_script.specs.Answers.{line_answers, report_of};
 ghost use Rattle.rd_script.specs.Replies.{answer_text};
-ghost use Rattle.rd_view.specs.Reports.{desk_line_answer, viewer_text, viewers_text};
+ghost use Rattle.std.specs.List.{AllByRecursion};
+ghost use Rattle.rd_desk.specs.Histories.{entries};
+ghost use Rattle.rd_view.specs.Reports.{SpellsItsCommand, desk_line_answer, history_text, viewer_text, viewers_text};
 
 use rd_cell::Refusal;
-use rd_desk::{Answer, DeskRefusal};
-use rd_script::{AnyRefusal, Heading, LineAnswer, ParsedLine, Text, set_answer, set_heading};
+use rd_desk::{Answer, DeskRefusal, History};
+use rd_script::{
+    AnyRefusal, Heading, LineAnswer, ParsedLine, Text, set_answer, set_call, set_heading,
+};
 use std::alloc::{AllocError, Global};
 
 /// Returns the text of a view: for each viewer in order its heading and the answers to its lines,
@@ -42,6 +48,24 @@ pub fn text_of_view(
     set_heading(&mut line, Heading::History(calls));
     text.extend_from_slice(line.as_slice())?;
     Ok(text)
+}
+
+/// Appends to the text the lines of a history: for each call in order the number of its viewer, and
+/// the line that spells its command. Fails only if memory is refused; some lines may then have been
+/// appended.
+///
+/// Each of these lines, without the number, is read as its command again (`reads_back`).
+pub fn put_history(text: &mut Vec<u8>, history: &History) -> Result<(), AllocError>
+    ensures text { OnOk result (text.new.items
+        ≡ text.old.items ++ history_text (entries history.now)) }
+    ensures reads_back { OnOk result (AllByRecursion SpellsItsCommand (entries history.now)) }
+{
+    let mut line = Text::new();
+    for (viewer, call) in history.calls() {
+        set_call(&mut line, *viewer, &call.command);
+        text.extend_from_slice(line.as_slice())?;
+    }
+    Ok(())
 }
 
 /// Appends to the text the heading of a viewer, and after it the answers to its lines. If there are
@@ -105,7 +129,7 @@ fn put_answer(text: &mut Vec<u8>, line: &mut Text, answer: &LineAnswer) -> Resul
 }
 
 /// Returns the answer to a line that spells a command, from the desk's answer to that command.
-fn desk_line_answer(answer: &Answer) -> LineAnswer
+pub(crate) fn desk_line_answer(answer: &Answer) -> LineAnswer
     ensures { result ≡ desk_line_answer answer.now }
 {
     match *answer {

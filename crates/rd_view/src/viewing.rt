@@ -7,10 +7,10 @@
 ghost use Rattle.std.specs.Prelude.{◌≡◌, ◌≤◌, false, length, map, IfOk, IfErr};
 ghost use Rattle.rd_marks.specs.Book.{book_state};
 ghost use Rattle.rd_desk.specs.declared.desks.TheConstants.{MOST_VIEWERS};
-ghost use Rattle.rd_desk.specs.Histories.{entries};
+ghost use Rattle.rd_desk.specs.Histories.{entries, IsLeftBy};
 ghost use Rattle.rd_script.specs.Answers.{commands_of};
 ghost use Rattle.rd_script.specs.Streams.{sink_stream};
-ghost use Rattle.rd_view.specs.Viewing.{AreParsed, IsBusyOrNoMemory, IsViewed, ViewsScripts};
+ghost use Rattle.rd_view.specs.Viewing.{AreParsed, IsBusyOrNoMemory, IsMadeBy, IsViewed, ViewsScripts};
 
 use super::faults::ViewFault;
 use super::reports::text_of_view;
@@ -23,6 +23,17 @@ use std::thread::Threads;
 
 /// For each viewer the answers to its commands, or none if its thread was not started.
 type ViewerAnswers = Vec<Option<Vec<Answer>>>;
+
+/// What the viewers left when the desk was closed.
+#[derive(Drop)]
+pub struct Viewed<const N: usize> {
+    /// The text of the view, as `text_of_view` returns it.
+    pub text: Vec<u8>,
+    /// The calls of all viewers.
+    pub history: History,
+    /// The book that these calls left.
+    pub book: Book<N>,
+}
 
 /// Runs 1 to 64 scripts over the book, each by a viewer in its own thread, and waits for all of
 /// them. Then writes the text of `text_of_view`: the answers to each script's lines, and the number
@@ -47,13 +58,40 @@ pub fn view_scripts<R: Threads + Wait + Sync, K: Sink, const N: usize>(
     ensures views { ViewsScripts (book_state book.entry) scripts.now
         (sink_stream K.Sink writer.old writer.new) result }
 {
-    let said = parse_scripts(alloc, scripts)?;
-    let (answered, history) = run_over_desk(rt, alloc, said.as_slice(), book)?;
-    let text = text_of_view(alloc, said.as_slice(), answered.as_slice(), history.len())?;
+    let Viewed { text, history, .. } = run_scripts(rt, alloc, scripts, book)?;
     match write_all(writer, text.as_slice()) {
         Ok(()) => Ok(history),
         Err(_) => Err(ViewFault::Write),
     }
+}
+
+/// Runs 1 to 64 scripts over the book, each by a viewer in its own thread, and waits for all of
+/// them. Returns the text of the view, the history and the book that the calls left. If a thread
+/// can't be started, its viewer gets the line `refused 20 NoMemory` in place of answers, and that
+/// is no error.
+///
+/// # Errors
+///
+/// `NoMemory` if memory was refused, `Busy` if the desk could not be closed. The book is then lost.
+pub fn run_scripts<R: Threads + Wait + Sync, const N: usize>(
+    rt: &R,
+    alloc: Global,
+    scripts: &[Vec<u8>],
+    book: Book<N>,
+) -> Result<Viewed<N>, ViewFault>
+    requires some { 1 ≤ length scripts.now }
+    requires few { length scripts.now ≤ MOST_VIEWERS }
+    ensures ok { IfOk result (IsMadeBy (book_state book.entry) scripts.now) }
+    ensures err { IfErr result IsBusyOrNoMemory }
+{
+    let said = parse_scripts(alloc, scripts)?;
+    let (answered, history, book) = run_over_desk(rt, alloc, said.as_slice(), book)?;
+    let text = text_of_view(alloc, said.as_slice(), answered.as_slice(), history.len())?;
+    Ok(Viewed {
+        text,
+        history,
+        book,
+    })
 }
 
 /// Returns for each script what its lines spell, commands and faults, in order. Fails only if
@@ -73,18 +111,20 @@ fn parse_scripts(alloc: Global, scripts: &[Vec<u8>]) -> Result<Vec<Vec<ParsedLin
 
 /// Opens a desk over the book for 1 to 64 viewers, lets each ask the commands of its lines in its
 /// own thread, and closes the desk when all are done. Returns for each viewer the answers, or none
-/// if its thread was not started, and the history. The book is lost. Fails with `NoMemory` if
-/// memory is refused, and with `Busy` if the desk can't be closed.
+/// if its thread was not started, the history, and the book that it left. Fails with `NoMemory` if
+/// memory is refused, and with `Busy` if the desk can't be closed; the book is then lost.
 fn run_over_desk<R: Threads + Wait + Sync, const N: usize>(
     rt: &R,
     alloc: Global,
     said: &[Vec<ParsedLine>],
     book: Book<N>,
-) -> Result<(ViewerAnswers, History), ViewFault>
+) -> Result<(ViewerAnswers, History, Book<N>), ViewFault>
     requires some { 1 ≤ length said.now }
     requires few { length said.now ≤ MOST_VIEWERS }
     ensures ok { IfOk result (λ done. IsViewed (book_state book.entry) said.now done.0.items
         (entries done.1)) }
+    ensures left { IfOk result (λ done. IsLeftBy (book_state book.entry)
+        (entries done.1) done.2) }
     ensures err { IfErr result IsBusyOrNoMemory }
 {
     let Ok((desk, passes)) = Desk::open(alloc, book, said.len() as u64) else {
@@ -96,7 +136,7 @@ fn run_over_desk<R: Threads + Wait + Sync, const N: usize>(
     };
     let (passes, answered) = passes_and_answers(alloc, dones)?;
     match desk.close(passes) {
-        Ok((_, history)) => Ok((answered, history)),
+        Ok((book, history)) => Ok((answered, history, book)),
         Err(words) => Err(ViewFault::Busy(words)),
     }
 }

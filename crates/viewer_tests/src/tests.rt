@@ -6,6 +6,7 @@ mod calls;
 mod commands;
 mod ends;
 mod gate;
+mod live;
 mod lock;
 mod reports;
 mod rows;

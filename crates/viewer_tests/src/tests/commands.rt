@@ -5,7 +5,7 @@ ghost use Rattle.rd_desk.specs.Desks.{IsViewerOf};
 use super::calls::{fresh, last_pass};
 use rd_desk::{Answer, Desk, DeskPass};
 use rd_marks::Command;
-use rd_script::{AnyRefusal, Text, command_in, set_answer};
+use rd_script::{AnyRefusal, Text, command_in, set_answer, set_call};
 use std::process::Abort;
 use std::sync::Wait;
 use test_kit::ASKED;
@@ -20,6 +20,14 @@ fn is_spelled(answer: &Answer, reply: &str) -> bool {
     let mut text = Text::new();
     set_answer(&mut text, &said);
     text.as_slice() == reply.as_bytes()
+}
+
+/// Whether this line spells the command, as a history has it.
+fn is_line(command: &Command, line: &str) -> bool {
+    let mut text = Text::new();
+    set_call(&mut text, 64, command);
+    let rest = text.as_slice().strip_prefix(b"64 ");
+    rest.and_then(|rest| rest.strip_suffix(b"\n")) == Some(line.as_bytes())
 }
 
 /// Asks a command, which gives this reply.
@@ -60,6 +68,7 @@ fn each_kind_of_command_is_answered_as_the_manual_says(rt: HostRuntime) {
         let Ok(command) = command_in(line.as_bytes()) else {
             panic!(&rt; "no command: {line}")
         };
+        assert!(&rt; is_line(&command, *line), "wanted {line}");
         asks(&rt, &asked, &mut asking, &command, *reply);
         tries(&rt, &tried, &mut trying, &command, *reply);
     }
@@ -67,4 +76,31 @@ fn each_kind_of_command_is_answered_as_the_manual_says(rt: HostRuntime) {
         panic!(&rt; "busy")
     };
     assert_eq!(&rt; history.len(), ASKED.len() as u64);
+}
+
+/// Asks a command, which gets this number in the history.
+fn is_call<R: Abort + Wait>(
+    rt: &R,
+    desk: &Desk<4>,
+    pass: &mut DeskPass<4>,
+    command: Command,
+    number: u64,
+)
+    requires own { IsViewerOf desk.now pass.old }
+    ensures own { IsViewerOf desk.now pass.new }
+{
+    let call = desk.ask_numbered(rt, pass, command);
+    assert!(rt; matches!(call, Ok((n, _)) if n == number), "call {number}");
+}
+
+#[test]
+fn each_call_has_its_number_whoever_asks_and_whatever_is_answered(rt: HostRuntime) {
+    let Ok((desk, mut passes)) = Desk::open(rt.alloc(), fresh(&rt, rt.alloc()), 2) else {
+        panic!(&rt; "out of memory")
+    };
+    let mut second = last_pass(&rt, &desk, &mut passes);
+    let mut first = last_pass(&rt, &desk, &mut passes);
+    is_call(&rt, &desk, &mut second, Command::Deq(1), 1);
+    is_call(&rt, &desk, &mut first, Command::Deq(1), 2);
+    is_call(&rt, &desk, &mut second, Command::Len, 3);
 }

@@ -38,3 +38,7 @@ returns-in-Ok-close-clause-ok g c =
           (all_answered g.row.N (Recorded.ghosts (number_of g.row.N)) desk c.in-Ok-close.history 1 c.in_ok-work.work.items c.in-Ok-ask_viewers.dones.items c.args.said.now c.in-Ok-ask_viewers.ensures.ok
           (rw passes opened.are_new) (ap (map number) passes ∙ opened.numbered) c.in_ok-work.ensures.commands (rw c.in_ok-passes.ensures.passes at closed.continues));
     }
+
+pub returns-in-Ok-close-clause-left : goal.returns-in-Ok-close-clause-left
+returns-in-Ok-close-clause-left g c =
+    let state : opened_state c.in-Ok.desk ≡ book_state c.args.book = ap book_state c.in-Ok.ensures.ok.rooted in rw (← state) c.in-Ok-close.ensures.leaves
