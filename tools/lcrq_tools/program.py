@@ -5,12 +5,14 @@ a time. `try_program` has a throw-away program built beside a copy of some crate
 """
 
 import argparse
+import functools
 import os
 import re
 import select
 import shutil
 import statistics
 import subprocess
+import sys
 import tempfile
 import time
 from collections.abc import Callable, Iterable, Mapping, Sequence
@@ -118,6 +120,17 @@ def run(
 def lines_of(text: str) -> list[str]:
     """The lines of a text. Only a line feed ends one."""
     return text.removesuffix("\n").split("\n") if text else []
+
+
+@functools.cache
+def standard_input() -> bytes:
+    """All of standard input, which can be read only once."""
+    return sys.stdin.buffer.read()
+
+
+def bytes_of(name: str) -> bytes:
+    """The bytes of a file; `-` is standard input."""
+    return standard_input() if name == "-" else Path(name).read_bytes()
 
 
 def refusals_of(script: bytes, replies: Sequence[str]) -> tuple[str, bool]:

@@ -31,6 +31,12 @@ function placesShown() {
   return places;
 }
 
+// The viewer whose mark is in an element, in words; nothing without one.
+function viewerOf(element) {
+  const mark = element && seenIn("use", element)[0];
+  return mark ? mark.getAttribute("href").replace("#viewer-", "viewer ") : "";
+}
+
 function rowsShown() {
   const rows = seenIn("#lanes .row").map((row) => [row.getBoundingClientRect().top, row]);
   rows.sort((one, other) => one[0] - other[0]);
@@ -38,7 +44,7 @@ function rowsShown() {
   const side = (box) => (box.bottom <= border.bottom + 1 ? "above" : box.top >= border.top - 1 ? "below" : "on");
   return rows.map(([top, row]) => ({
     number: textOf(row.querySelector(".number")), about: row.getAttribute("aria-label"), side: side(row.querySelector(".ground").getBoundingClientRect()),
-    last: row.classList.contains("last"), named: row.classList.contains("named"),
+    last: row.classList.contains("last"), named: row.classList.contains("named"), viewer: viewerOf(row),
     undone: row.classList.contains("undone"), stops: row.getAttribute("tabindex") === "0", id: Number(row.dataset.row),
   }));
 }
@@ -59,10 +65,12 @@ function shown() {
     places: placesShown(), rows: rowsShown(), chips: chipsShown(),
     order: seenIn("#queue .segment").filter((it) => it.dataset.place).map((it) => [textOf(it.querySelector(".name")), Boolean(it.closest(".apart")), it.classList.contains("leads")]),
     code: Object.fromEntries(seenIn("#code .step").map((step) => [step.dataset.point, [...step.querySelectorAll(".disc")].map(textOf)]).filter((it) => it[1].length)),
-    current: current.map((button) => [...button.children].map(textOf)), why: current.map((button) => textOf(button.parentElement.querySelector(".why"))),
+    current: current.map((button) => [...button.children].map((it) => it.getAttribute("aria-label") || textOf(it))), why: current.map((button) => textOf(button.parentElement.querySelector(".why"))),
     said: textOf(document.getElementById("said")), where: textOf(document.getElementById("where")),
     command: textOf(document.getElementById("command")), hash: location.hash, slider: document.getElementById("slider").value,
     valuetext: document.getElementById("slider").getAttribute("aria-valuetext"),
+    asker: textOf(document.getElementById("asker")), askerMark: viewerOf(document.getElementById("asker")),
+    lineMark: viewerOf(current[0]),
   };
 }
 

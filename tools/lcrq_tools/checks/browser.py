@@ -3,12 +3,13 @@
     /usr/bin/python3 tools/check.py browser [NAME..] [--program P]
 
 The gate can't run it: it needs Debian's chromium, chromium-driver and python3-selenium, whose Python
-is /usr/bin/python3. It makes the page of each lesson, of the README's session and of the guide's first
-run, or of those that are named, and goes along all lines by the right arrow and back by the left one,
-and by End, Home, the slider, a click and the address. After each key it compares what is drawn with
-the program's replies at that line, which are asked of a new run: each cell, counter and end of the queue,
-the actors with their control points and places, the steps in their order, the border between live and
-undone ones, and the sentence that the accessibility tree has of the moment. At widths of 400, 1,000 and
+is /usr/bin/python3. It makes the page of each lesson, of the README's session, of the guide's first run
+and of a history, which has the name `viewers`, or of those that are named. It goes along all lines by the
+right arrow and back by the left one, and by End, Home, the slider, a click and the address. After each
+key it compares what is drawn with the program's replies at that line, which are asked of a new run: each
+cell, counter and end of the queue, the actors with their control points and places, the steps in their
+order, the border between live and undone ones, and the sentence that the accessibility tree has of the
+moment; and who asked the line and each step with the history. At widths of 400, 1,000 and
 1,900 pixels no text may be cut off or overlap another one, and no part may change its size along the
 run; the browser may log no error. A handout has the queue at each bookmark, or at the end. On a run of
 400 lines, which has the name `long`, a key has to be answered within 50 ms, and its page stays below 1 MB.
@@ -17,6 +18,7 @@ Each check prints a line; the status is 1 if one fails, or if the browser is mis
 
 import argparse
 import functools
+import random
 import shutil
 import tempfile
 import time
@@ -25,7 +27,7 @@ from pathlib import Path
 from typing import Any
 
 from lcrq_tools import dependence, model, program
-from lcrq_tools.checks import run_pages, shown
+from lcrq_tools.checks import histories, run_pages, shown
 from lcrq_tools.faults import Fault, Parser
 from lcrq_tools.page import page
 
@@ -39,7 +41,8 @@ try:
 except ImportError:
     HAS_SELENIUM = False
 
-LONG = "long"
+LONG, VIEWERS = "long", "viewers"
+LINES = 40  # of the history of viewers
 WIDTHS = (400, 1000, 1900)  # pixels: a phone, a window, a beamer
 HEIGHT = 1000
 MOST_MS = 50.0  # that a key may take
@@ -190,7 +193,7 @@ class Walk:
         for it in [it for it in moments if it.reply.startswith("marked ")] or moments[-1:]:
             values = {place: content for place, content in it.places.items() if place.startswith("value ")}
             texts = {place: "" if content == "none" else content for place, content in values.items()}
-            wanted.append([f"After line {it.line}, {it.text}: {it.reply}", texts])
+            wanted.append([f"After line {it.line}, {it.begin}: {it.reply}", texts])
         figures = self.browser.ask("handout()")
         if figures != wanted:
             return f"the handout has {figures}, wanted {wanted}"
@@ -247,12 +250,19 @@ def long_fault(browser: Browser, folder: Path, given: argparse.Namespace) -> str
     return f"{len(late)} of 800 keys take more than {MOST_MS} ms" if late else browser.errors()
 
 
+def arguments_of(name: str, options: str, folder: Path, given: argparse.Namespace) -> argparse.Namespace:
+    """The command line of an example's page, or of that of a history at random."""
+    if name != VIEWERS:
+        return run_pages.arguments_of(name, options, given.program)
+    return page.parser().parse_args(histories.asked_of(random.Random(1), folder, LINES, given).words)
+
+
 def checks(browser: Browser, folder: Path, given: argparse.Namespace) -> Iterator[tuple[str, str]]:
     """The checks, each a name and what is wrong, or nothing."""
-    for name, options in run_pages.pages().items():
+    for name, options in [*run_pages.pages().items(), (VIEWERS, "")]:
         if given.names and name not in given.names:
             continue
-        arguments, path = run_pages.arguments_of(name, options, given.program), folder / f"{name}.html"
+        arguments, path = arguments_of(name, options, folder, given), folder / f"{name}.html"
         path.write_text(page.page_of(arguments)[0], encoding="utf-8")
         walk = Walk(browser, path, arguments)
         yield f"{name}, by all keys", walk.keys_fault()
@@ -264,7 +274,7 @@ def checks(browser: Browser, folder: Path, given: argparse.Namespace) -> Iterato
 def main() -> int:
     """Prints each check; returns the exit status."""
     parser = Parser(__doc__, "/usr/bin/python3 tools/check.py browser session")
-    about = f"the examples whose pages are opened, and {LONG} for the run of 400 lines (all)"
+    about = f"the examples whose pages are opened, {VIEWERS} for a history, and {LONG} for the run of 400 lines (all)"
     parser.add_argument("names", nargs="*", metavar="NAME", help=about)
     program.add_program(parser)
     given = parser.parse_args()

@@ -12,7 +12,8 @@ rows share a lane on which one of their dots is filled exactly if the two steps 
 other. The marks of `--undo`, `--roll` and `--free` have to agree with it too. Rows, headings,
 lanes, segments and calls have to be those that `runs.py` finds by other means. All of this
 is also checked of 200 random runs with random options, and of 12 longer ones with more actors and
-segments. `--store` stores the pictures in place of comparing them. Each check prints a line; the
+segments. In random histories of viewers each row has to have the mark of the viewer who asked its
+step. `--store` stores the pictures in place of comparing them. Each check prints a line; the
 status is 1 if one of them fails. Only Python's standard library is used.
 """
 
@@ -29,7 +30,7 @@ from pathlib import Path
 from types import ModuleType
 
 from lcrq_tools import dependence, program
-from lcrq_tools.checks import moments, runs
+from lcrq_tools.checks import histories, moments, runs
 from lcrq_tools.draw import figure, moment, picture
 from lcrq_tools.faults import Fault, Parser, status_of
 from lcrq_tools.program import TOP
@@ -41,6 +42,8 @@ PORT_LESSON = "16-a-port-beside-the-model"
 PORTS = f"{EXAMPLES}/{PORT_LESSON}.md"
 RUNS, CROWDED_RUNS = 200, 12  # how many runs are drawn at random: short ones, and longer ones
 TRIED = 60  # of how many of the short ones the last moment is drawn too
+HISTORIES, LINES = 40, 50  # how many histories are drawn at random, and the lines of each
+MOMENTS_ASKED = 12  # of how many of them a moment is drawn too
 
 # What draws a picture or a moment, the page, the file, the script and the options.
 Drawing = tuple[ModuleType, str, str, str, str]
@@ -233,9 +236,9 @@ def is_right(fault: Fault, run: runs.Run) -> bool:
     return later is not None and later not in drawn and f"Depended {later}, which is " in str(fault)
 
 
-def run_fault(seed: int, folder: Path, given: argparse.Namespace, is_short: bool) -> str:
-    """What is wrong with the picture of one run, or nothing."""
-    chance, words = words_of(seed, folder, is_short, given)
+def drawn_fault(chance: random.Random, words: list[str], viewers: list[int]) -> str:
+    """What is wrong with the picture of a run with options at random, or nothing. These viewers asked its
+    steps, if it is of viewers."""
     session = figure.Session(picture.parser().parse_args(words))
     if not session.live + session.undone:
         return ""
@@ -243,6 +246,7 @@ def run_fault(seed: int, folder: Path, given: argparse.Namespace, is_short: bool
     options = options_of(chance, records, session.live)
     arguments = picture.parser().parse_args([*words, *options])
     run = runs.run_of(arguments, session, records)
+    run.viewers = viewers
     try:
         fault = runs.faults_of(picture.drawn_of(arguments)[0], run, session)
     except Fault as refusal:
@@ -252,12 +256,35 @@ def run_fault(seed: int, folder: Path, given: argparse.Namespace, is_short: bool
 
 def random_fault(seed: int, folder: Path, given: argparse.Namespace) -> str:
     """What is wrong with the picture of one run, or nothing."""
-    return run_fault(seed, folder, given, True)
+    return drawn_fault(*words_of(seed, folder, True, given), [])
 
 
 def crowded_fault(seed: int, folder: Path, given: argparse.Namespace) -> str:
     """What is wrong with the picture of one longer run, or nothing."""
-    return run_fault(seed, folder, given, False)
+    return drawn_fault(*words_of(seed, folder, False, given), [])
+
+
+def history_fault(seed: int, folder: Path, given: argparse.Namespace) -> str:
+    """What is wrong with the picture of one history, or nothing."""
+    chance = random.Random(seed)
+    asked = histories.asked_of(chance, folder, LINES, given)
+    viewers = histories.wanted_of(picture.parser().parse_args(asked.words), asked, LINES)
+    return drawn_fault(chance, asked.words, viewers)
+
+
+def asked_moment_fault(seed: int, folder: Path, given: argparse.Namespace) -> str:
+    """What is wrong with a moment of one history, or nothing."""
+    chance = random.Random(seed)
+    asked = histories.asked_of(chance, folder, LINES, given)
+    line = chance.randint(1, LINES)
+    arguments = moment.parser().parse_args([*asked.words, "--line", str(line)])
+    svg = moment.drawn_of(arguments)[0]
+    viewer, text = asked.calls[line - 1]
+    drawn, where = runs.read(svg), f"after line {line}, viewer {viewer}, {text}: "
+    said = [it for _, it in drawn.texts if it.startswith(where) or it == f"viewer {viewer}, who asked the last line"]
+    if len(said) < 2 or where not in drawn.title or runs.marks_in(svg) != [viewer, viewer]:
+        return f"line {line}: it says {said} and has the marks of {runs.marks_in(svg)}, and viewer {viewer} asked it"
+    return moment_fault(svg, arguments)
 
 
 def random_moment_fault(seed: int, folder: Path, given: argparse.Namespace) -> str:
@@ -350,6 +377,8 @@ def checks(given: argparse.Namespace) -> Iterator[tuple[str, str]]:
     yield f"{RUNS} runs at random", random_faults(given, RUNS, random_fault)
     yield f"{CROWDED_RUNS} longer ones of more actors", random_faults(given, CROWDED_RUNS, crowded_fault)
     yield f"the last moment of {TRIED} of them", random_faults(given, TRIED, random_moment_fault)
+    yield f"{HISTORIES} histories of viewers", random_faults(given, HISTORIES, history_fault)
+    yield f"a moment of {MOMENTS_ASKED} of them", random_faults(given, MOMENTS_ASKED, asked_moment_fault)
     for name, script, options in ODD:
         yield name, odd_fault(script, options, given)
     yield "a run of more than 200 steps", long_run_fault(given)

@@ -3,13 +3,14 @@
     python3 tools/check.py run_pages [--program P]
 
 The gate runs it, over the program that `rt ci` leaves. `tools/page.py` makes a page of each lesson, of
-the session of the README and of the guide's first run, twice, to the same bytes; and of some runs at
-random. The differences in a page's data are made states again here. The session
-after so many lines, as `run --trace` writes it, is loaded, and its replies are compared with the
+the session of the README and of the guide's first run, twice, to the same bytes; and of some runs and
+some histories of viewers at random. The differences in a page's data are made states again here. The
+session after so many lines, as `run --trace` writes it, is loaded, and its replies are compared with the
 state: the content of each place and who wrote it last, the order of the segments, the words of the
-actors and what their next steps would touch, and the live and undone steps in their order. Letters
-have to have a contrast of 4.5 on each ground. `tools/check.py browser` looks at the pages themselves.
-Each check prints a line; the status is 1 if one of them fails. Only Python's standard library is used.
+actors and what their next steps would touch, and the live and undone steps in their order. Each line
+and each step of a history has to have the mark of the viewer who asked it. Letters have to have a
+contrast of 4.5 on each ground. `tools/check.py browser` looks at the pages themselves. Each check prints
+a line; the status is 1 if one of them fails. Only Python's standard library is used.
 """
 
 import argparse
@@ -24,12 +25,13 @@ from pathlib import Path
 from typing import Any
 
 from lcrq_tools import program
-from lcrq_tools.checks import moments, pictures
+from lcrq_tools.checks import histories, moments, pictures
 from lcrq_tools.draw import figure
 from lcrq_tools.faults import Fault
 from lcrq_tools.page import page, page_parts, run_rows, run_states
 
 RUNS, STEPS = 20, 60  # how many runs at random, and the lines of each
+HISTORIES = 10  # how many histories of viewers at random
 EACH = 6  # of how many moments of such a run one is compared
 MOST_BYTES = 1_000_000  # of a page of 400 lines
 CONTRAST = 4.5
@@ -51,7 +53,7 @@ def world_of(name: str, options: str) -> str:
 
 
 def pages() -> dict[str, str]:
-    """The scripts that have a page, and of each the options of its world. Viewers have none."""
+    """The scripts that have a page, and of each the options of its world. Those of viewers have none."""
     rows = [(lesson + which, world_of(lesson + which, options)) for lesson, which, options in pictures.LESSONS]
     return dict([*OTHERS, *(row for row in rows if "viewers" not in row[0])])
 
@@ -221,6 +223,73 @@ def state_fault(text: str, arguments: argparse.Namespace, each: int) -> str:
     return ""
 
 
+# ---- Viewers --------------------------------------------------------------------------------------
+
+# A line of the list, a row of the steps and the name of a viewer, with the numbers of viewers in each.
+MARK = r'<use href="#viewer-(\d+)"'
+LINE = re.compile(rf'<span class="no">(\d+)</span><svg class="asker" role="img" aria-label="viewer (\d+)">{MARK}/>')
+ROW = re.compile(r'<g class="row [^>]*data-row="(\d+)"[^>]*data-about="(?:viewer (\d+), )?actor .*?</g>')
+NAMED = re.compile(rf'<li data-viewer="(\d+)">.*?{MARK}.*?<span>viewer (\d+)</span></li>')
+
+
+def lines_fault(text: str, asked: histories.RandomHistory) -> str:
+    """Which line has the mark of another viewer than who asked it, or isn't said to be of that viewer, or
+    nothing."""
+    data, states = states_in(text)
+    first, found = data["first"], LINE.findall(text)
+    wanted = [viewer for viewer, _ in [(0, ""), *asked.calls][first: first + len(states)]]
+    if found != [(str(at), str(viewer), str(viewer)) for at, viewer in enumerate(wanted, first) if viewer]:
+        return f"the lines have the marks {found}, wanted {wanted}"
+    if data["viewers"] != wanted:
+        return f"the data have the viewers {data['viewers']}, wanted {wanted}"
+    begins = [f"Line {at}, viewer {viewer}, " for at, viewer in enumerate(wanted, first)][1:]
+    saids = [state["said"] for state in states[1:]]
+    return next((f"it says {said}" for said, begin in zip(saids, begins) if not said.startswith(begin)), "")
+
+
+def askers_wanted(text: str, arguments: argparse.Namespace, asked: histories.RandomHistory) -> dict[int, int]:
+    """The viewer of each row: of the line that makes its step. What else is first there at a line, such as
+    the steps of a bookmark, is found by all lines before."""
+    data, states = states_in(text)
+    wanted: dict[int, int] = {}
+    for at, state in enumerate(states, data["first"]):
+        fresh = [row for row in state["rows"] if row not in wanted]
+        if fresh and at > data["first"] and ": ok " in state["said"]:
+            wanted[fresh[0]] = asked.calls[at - 1][0]
+        elif fresh:
+            viewers = histories.wanted_of(arguments, asked, at)
+            wanted |= {row: viewer for row, viewer in zip(state["rows"], viewers) if row in fresh}
+    return wanted
+
+
+def askers_fault(text: str, wanted: dict[int, int]) -> str:
+    """Which step has the mark of another viewer than who asked it, or is said to be of another one, or which
+    mark has no name, or nothing."""
+    used = {*states_in(text)[0]["viewers"]}
+    for found in ROW.finditer(text):
+        viewer, said = wanted[int(found[1])], int(found[2] or 0)
+        marks = [int(it) for it in re.findall(MARK, found[0])]
+        if said != viewer or marks != [viewer] * bool(viewer):
+            return f"row {found[1]} is of viewer {viewer}, has the marks {marks} and says {said}"
+        used.add(viewer)
+    named = NAMED.findall(text)
+    return "" if named == [(str(it),) * 3 for it in sorted(used - {0})] else f"the viewers {used} are named as {named}"
+
+
+def history_fault(seed: int, folder: Path, given: argparse.Namespace) -> str:
+    """What is wrong with the page of one history at random, or nothing. Each third one is of a part of it."""
+    chance = random.Random(seed)
+    asked = histories.asked_of(chance, folder, STEPS, given)
+    part = [] if seed % 3 else ["--lines", f"{chance.randint(2, 30)}:{chance.randint(31, STEPS)}"]
+    arguments = page.parser().parse_args([*asked.words, *part])
+    text = page.page_of(arguments)[0]
+    return (
+        lines_fault(text, asked)
+        or askers_fault(text, askers_wanted(text, arguments, asked))
+        or state_fault(text, arguments, EACH)
+    )
+
+
 # ---- The checks -----------------------------------------------------------------------------------
 
 
@@ -314,6 +383,7 @@ def checks(given: argparse.Namespace) -> Iterator[tuple[str, str]]:
     for name, options in pages().items():
         yield f"the page of {name}", page_fault(arguments_of(name, options, given.program))
     yield f"the pages of {RUNS} runs at random", pictures.random_faults(given, RUNS, random_fault)
+    yield f"the pages of {HISTORIES} histories of viewers", pictures.random_faults(given, HISTORIES, history_fault)
     yield "a run of more than 400 lines", long_fault(given)
     yield "the contrast of letters", contrast_fault()
 

@@ -11,7 +11,7 @@ import itertools
 import json
 import re
 import tempfile
-from dataclasses import dataclass
+from dataclasses import dataclass, field
 from pathlib import Path
 from xml.etree import ElementTree
 from xml.etree.ElementTree import Element
@@ -49,6 +49,8 @@ class Drawn:
     title: str
     about: str
     marked: dict[str, set[int]]  # the rows that are marked, from 1 on, by the kind of mark
+    viewers: list[int]  # of each row the viewer whose mark it has; 0 without one
+    legend: list[int]  # the viewers whose marks it has
 
     def actors(self) -> dict[int, float]:
         """The actors that have lanes, from left to right, and where."""
@@ -105,6 +107,18 @@ def groups_of(root: Element, *kinds: str) -> list[Element]:
     return [group for group in root.iter(f"{SVG}g") if group.attrib["class"].split(" ")[0] in kinds]
 
 
+def viewers_in(group: Element) -> list[int]:
+    """The viewers whose marks a group has. A mark has the viewer's number."""
+    marks = [(int(mark.attrib["data-viewer"]), mark.findtext(f"{SVG}text", "")) for mark in groups_of(group, "viewer")]
+    assert all(label == f"V{viewer}" for viewer, label in marks), "a mark has another viewer's number"
+    return [viewer for viewer, _ in marks]
+
+
+def marks_in(svg: str) -> list[int]:
+    """The viewers whose marks a drawing has."""
+    return viewers_in(ElementTree.fromstring(svg))
+
+
 def read(svg: str) -> Drawn:
     """What a picture has."""
     root = ElementTree.fromstring(svg)
@@ -128,6 +142,8 @@ def read(svg: str) -> Drawn:
         title=root.findtext(f"{SVG}title", ""),
         about=root.findtext(f"{SVG}desc", ""),
         marked=marks_of(root, downs),
+        viewers=[max(viewers_in(row), default=0) for row in rows],
+        legend=[it for group in groups_of(root, "legend") for it in viewers_in(group)],
     )
 
 
@@ -144,6 +160,7 @@ class Run:
     start: moments.Trace  # that of the trace; nothing over a fresh world
     records: list[str]
     steps: list[dependence.Step]
+    viewers: list[int] = field(default_factory=list)  # of each step of a history, who asked it; 0 of the start's
 
     def first(self) -> int:
         """The first step that may be drawn."""
@@ -322,6 +339,23 @@ def bar_fault(drawn: Drawn) -> str:
     return "" if said and is_actor == ("each dot" in said[0]) != ("one of them" in said[0]) else f"it says {said}"
 
 
+# ---- Viewers --------------------------------------------------------------------------------------
+
+
+def viewers_fault(drawn: Drawn, run: Run) -> str:
+    """Which row has the mark of another viewer than who asked its step, or what is wrong with their legend
+    or with what is said of them, or nothing."""
+    wanted = [run.viewers[number - 1] if run.viewers else 0 for number in run.drawn()]
+    if drawn.viewers != wanted:
+        return f"its rows have the marks of the viewers {drawn.viewers}, wanted {wanted}"
+    named = sorted({*wanted} - {0})
+    words = [text for _, text in drawn.texts if text.startswith("viewer ")]
+    if drawn.legend != named or words != [f"viewer {viewer}" for viewer in named]:
+        return f"its legend has the viewers {drawn.legend}, and says {words}"
+    said = re.findall(r"(?:\b\d+|undone): (?:viewer (\d+), )?actor ", drawn.about)
+    return "" if [int(it or 0) for it in said] == wanted else f"its description has the viewers {said}"
+
+
 # ---- Lanes ----------------------------------------------------------------------------------------
 
 
@@ -423,6 +457,7 @@ def faults_of(svg: str, run: Run, session: figure.Session) -> str:
         words_fault(drawn, run)
         or labels_fault(drawn)
         or rows_fault(drawn, run)
+        or viewers_fault(drawn, run)
         or dots_fault(drawn, run)
         or marks_fault(drawn, run)
         or bar_fault(drawn)

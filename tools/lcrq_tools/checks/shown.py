@@ -4,6 +4,7 @@
 read from the page, and name the first thing that isn't as the program replies.
 """
 
+import re
 from typing import Any
 
 from lcrq_tools.page import run_states
@@ -20,6 +21,8 @@ class Replies:
     def __init__(self, asked: run_states.Asked, line: int) -> None:
         self.asked, self.line, self.lines = asked, line, asked.lines[:line]
         self.text = self.lines[-1].decode() if line else ""
+        self.viewer = f"viewer {asked.session.viewers[line - 1]}" if line and asked.session.viewers else ""
+        self.begin = f"{self.viewer}, {self.text}" if self.viewer else self.text  # how the line is named in words
         replies = self.run(["len"])
         self.reply, self.live, self.undone = replies[line - 1] if line else "", *map(int, replies[-1].split(" ")[1:])
         count, ring = self.live + self.undone, asked.session.ring
@@ -172,7 +175,8 @@ def rows_fault(shown: Shown, it: Replies) -> str:
         word, actor, *rest = event.split(" ")
         call = " ".join(rest if word == "starve" else [word, *rest])
         words = [f"actor {actor}", f" {access} {place}: {answer}" if place != "-" else call]
-        if not all(word in row["about"] for word in words):
+        said = re.fullmatch(r"\w+(?: \d+)?: (?:(viewer \d+), )?actor .*", row["about"])
+        if not said or not all(word in row["about"] for word in words) or (said[1] or "") != row["viewer"]:
             return f"row {row['number']} is {row['about']}, and the program replies {record}"
     last = [row["number"] for row in rows if row["last"]]
     return "" if last == ([str(it.live)] if it.live else []) else f"the rows {last} are marked as the last one"
@@ -180,19 +184,25 @@ def rows_fault(shown: Shown, it: Replies) -> str:
 
 def words_fault(shown: Shown, it: Replies, tree: list[Node], last_line: int) -> str:
     """What of the line and its words isn't as the program replies, or nothing."""
-    line = [str(it.line), it.text, it.reply] if it.line else ["0", "before the first line"]
+    line = [str(it.line), *filter(None, [it.viewer]), it.text, it.reply] if it.line else ["0", "before the first line"]
     if shown["current"] != [line]:
         return f"the line {shown['current']} is marked, and it is {line}"
     if it.reply.startswith("refused ") and it.reply.split(" ")[2] not in shown["why"][0]:
         return f"the line is {it.reply}, and the page says {shown['why']}"
     if shown["where"] != f"line {it.line} of {last_line}" or shown["slider"] != str(it.line):
         return f"it is line {it.line}, and the page has {shown['where']} and {shown['slider']}"
-    if not shown["command"].startswith(f"head -n {it.line} "):
+    if f"| head -n {it.line} " not in f"| {shown['command']}":
         return f"the command is {shown['command']}"
-    said = f"Line {it.line}, {it.text}: {it.reply}." if it.line else f"Before the first line: {it.live} live steps"
+    if [shown["asker"], shown["askerMark"], shown["lineMark"]] != [it.viewer] * 3:
+        marks = f"{shown['asker']}, {shown['askerMark']} and {shown['lineMark']}"
+        return f"{it.viewer} asked it, and the page has {marks}"
+    said = f"Line {it.line}, {it.begin}: {it.reply}." if it.line else f"Before the first line: {it.live} live steps"
     names = [node["name"] for node in tree]
     if not shown["said"].startswith(said) or shown["said"] not in names:
         return f"the accessibility tree has no {said}"
+    heard = " ".join(line)
+    if not any(node["role"] == "button" and node["name"] == heard for node in tree):
+        return f"the accessibility tree has no button {heard}"
     slider = [node for node in tree if node["role"] == "slider"]
     if len(slider) != 1 or shown["where"] != slider[0]["name"] or shown["valuetext"] != shown["said"]:
         return f"the slider is {slider}, {shown['valuetext']}"

@@ -13,6 +13,7 @@ from dataclasses import dataclass, field
 from typing import TYPE_CHECKING, NamedTuple
 
 from lcrq_tools.draw.figure import DARK, GREY, HEAD, MARGIN, PLAIN, SMALL, colour_of, width_of
+from lcrq_tools.draw.viewer_marks import width_of_marks
 
 if TYPE_CHECKING:
     from lcrq_tools.draw.moment import Chip, Moment, Segment
@@ -182,6 +183,7 @@ class Layout:
 
     def __init__(self, moment: "Moment", said: str) -> None:
         self.moment, self.said = moment, said
+        self.asker = width_of_marks([moment.viewer]) + 6 if moment.viewer else 0.0  # the room for a viewer's mark
         linked, apart, array = strips_of(moment)
         self.strips = [it for it in [*linked, *apart, *array] if isinstance(it, Strip)]
         self.measure()
@@ -360,8 +362,8 @@ class Layout:
             tallest = max(tallest, height)
             self.right = max(self.right, x + self.chip)
         self.foot = y + tallest + 22
-        self.bottom = self.foot + (34 if self.idle() else 16)
-        captions = width_of(self.caption(), HEAD, True), width_of(self.said, PLAIN)
+        self.bottom = self.foot + (34 if self.idle() else 16) + (18 if self.moment.viewer else 0)
+        captions = self.asker + width_of(self.caption(), HEAD, True), width_of(self.said, PLAIN)
         self.right = max(self.right, MARGIN + max(captions), 520.0)
 
     def caption(self) -> str:

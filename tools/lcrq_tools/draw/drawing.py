@@ -13,6 +13,7 @@ from lcrq_tools.draw.figure import (
 from lcrq_tools.draw.lanes import (
     BAND_TOP, DOT, FIRST_ROW, GAP, MARK, ROW, Call, Layout, Picture, Row, actor_lane, band_of, name_of,
 )
+from lcrq_tools.draw.viewer_marks import mark_at, viewer_name
 
 CALL, BAR, NUMBER = 6, 6, 7  # half of how wide a call and a bar are, and half of how high the frame of a number is
 IN_CALL = 0.22  # how much of an actor's colour the shade of its call has
@@ -166,6 +167,8 @@ def row_lines(layout: Layout, row: Row, at: int) -> Iterator[str]:
         ends = [layout.lanes[dot.lane] for dot in row.dots]
         yield element("line", x1=actor, y1=y, x2=max(ends), y2=y, stroke=colour, stroke_opacity=0.6)
     yield from name_lines(layout, row, at)
+    if row.viewer:
+        yield from mark_at(row.viewer, layout.numbers + 8 + layout.marks / 2, y)
     yield words_at(actor - 9, y + 4, row.point, PLAIN, DARK, "end")
     yield from over(actor, y, row.reply, PLAIN, dark, ground_of(actor_lane(row.actor), row), True)
     yield dot_at("wrote", actor, y, colour)
@@ -295,6 +298,9 @@ def legend_lines(layout: Layout) -> Iterator[str]:
     for name, (x, y) in zip(legend_of(layout.picture), layout.legend):
         yield from legend_mark(name, x, y)
         yield words_at(x + MARK + 4, y + 4, LEGEND[name], SMALL, GREY)
+    for viewer, (x, y) in zip(layout.picture.viewers(), layout.viewers):
+        yield from mark_at(viewer, x + layout.marks / 2, y)
+        yield words_at(x + layout.marks + 4, y + 4, viewer_name(viewer), SMALL, GREY)
 
 
 # ---- The picture ----------------------------------------------------------------------------------
@@ -304,9 +310,10 @@ def sentence_of(row: Row) -> str:
     """A row in words."""
     reply = f"; the call replies {row.reply}" if row.reply else ""
     free = "; it could be undone alone now" if row.is_free else ""
+    begins = f"{row.name}: {viewer_name(row.viewer)}, " if row.viewer else f"{row.name}: "
     if row.place == "-":
-        return f"{row.name}: actor {row.actor}, {row.point}{free}."
-    return f"{row.name}: actor {row.actor} at {row.point} {row.access} {row.place}: {row.answer}{reply}{free}."
+        return f"{begins}actor {row.actor}, {row.point}{free}."
+    return f"{begins}actor {row.actor} at {row.point} {row.access} {row.place}: {row.answer}{reply}{free}."
 
 
 def about(picture: Picture) -> str:

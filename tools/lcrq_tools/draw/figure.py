@@ -1,5 +1,5 @@
-"""What `tools/picture.py` and `tools/moment.py` share: the session that a script leaves, whose
-replies a figure is made from, the elements of SVG, colours and sizes, and the command line.
+"""What `tools/picture.py` and `tools/moment.py` share: the session that a script or a history leaves,
+whose replies a figure is made from, the elements of SVG, colours and sizes, and the command line.
 
 A figure's text is plain: no script, no font of its own, and a title and a description in words.
 Only Python's standard library is used.
@@ -11,8 +11,9 @@ from collections.abc import Callable, Iterable, Sequence
 from pathlib import Path
 from xml.sax.saxutils import escape
 
+from lcrq_tools import history
 from lcrq_tools.faults import Fault, Parser, say
-from lcrq_tools.program import add_program, add_refused, refusals_of, run, world_of
+from lcrq_tools.program import add_program, add_refused, bytes_of, refusals_of, run, world_of
 
 # The colours of Okabe and Ito: of an actor's dots and lines, and darker for its words. Their
 # vermilion is that of `--undo` and `--roll`, and of what is unsafe or closed.
@@ -42,10 +43,11 @@ NORMAL, BOLD = 0.64, 1.1
 
 
 class Session:
-    """The session that a script leaves: each question is asked of a new run of it."""
+    """The session that a script or a history leaves: each question is asked of a new run of it."""
 
     def __init__(self, arguments: argparse.Namespace) -> None:
-        self.words, self.script = words_of(arguments), script_of(arguments.script, arguments.lines)
+        self.words = words_of(arguments)
+        self.script, self.viewers = given_of(arguments)
         trace: str | None = arguments.trace
         takes_refused: bool = arguments.refused
         self.over = f"{trace}: " if trace else ""  # what a fault of the program names
@@ -100,10 +102,20 @@ def words_of(arguments: argparse.Namespace) -> list[str]:
     return [program, "load", "--", trace]
 
 
+def given_of(arguments: argparse.Namespace) -> tuple[bytes, tuple[int, ...]]:
+    """The bytes of the lines that are run, and of a history the viewer who asked each of them."""
+    name: str | None = arguments.history
+    lines: int | None = arguments.lines
+    if name is None:
+        return script_of(arguments.script, lines), ()
+    calls = history.read(name).first(lines)
+    return calls.script(), calls.viewers
+
+
 def script_of(name: str, count: int | None) -> bytes:
     """The bytes of a script, or of so many first lines, with a line feed after the last one."""
     try:
-        script = sys.stdin.buffer.read() if name == "-" else Path(name).read_bytes()
+        script = bytes_of(name)
     except OSError as fault:
         raise Fault(f"{name}: {fault.strerror}") from fault
     lines = script.removesuffix(b"\n").split(b"\n") if script else []
@@ -186,7 +198,10 @@ def number_above_0(text: str) -> int:
 def parser_of(about: str, example: str, out: str = "OUT.svg") -> Parser:
     """The command line, as far as the tools share it."""
     it = Parser(about, example)
-    it.add_argument("script", metavar="SCRIPT", help="the script; - is standard input")
+    given = it.add_mutually_exclusive_group(required=True)
+    given.add_argument("script", metavar="SCRIPT", nargs="?", help="the script; - is standard input")
+    calls = "in place of SCRIPT: what `lcrqdb view FILE.. --history` wrote, or its lines `V LINE`; - is standard input"
+    given.add_argument("--history", metavar="FILE", help=calls)
     it.add_argument("-o", dest="out", metavar=out, default="-", help="the file that is written; - is standard output")
     it.add_argument("--trace", metavar="FILE", help="the trace over which the script is run")
     it.add_argument("--actors", metavar="A", help="how many actors the fresh world has")
@@ -196,10 +211,15 @@ def parser_of(about: str, example: str, out: str = "OUT.svg") -> Parser:
     return it
 
 
+def kind_of(arguments: argparse.Namespace) -> str:
+    """What is run: a script or a history."""
+    return "script" if arguments.history is None else "history"
+
+
 def script_name(arguments: argparse.Namespace) -> str:
-    """What a title calls the script."""
-    script: str = arguments.script
-    return "a script" if script == "-" else Path(script).name
+    """What a title calls the script or the history."""
+    name: str = arguments.script if arguments.history is None else arguments.history
+    return f"a {kind_of(arguments)}" if name == "-" else Path(name).name
 
 
 def write_drawn(arguments: argparse.Namespace, drawn_of: Callable[[argparse.Namespace], tuple[str, str]]) -> int:

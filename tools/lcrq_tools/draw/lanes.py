@@ -8,6 +8,7 @@ Labels get the room that a wide font needs, so that no two overlap.
 from dataclasses import dataclass, field
 
 from lcrq_tools.draw.figure import HEAD, MARGIN, PLAIN, SMALL, segment_of, width_of
+from lcrq_tools.draw.viewer_marks import viewer_name, width_of_marks
 
 # Sizes, in pixels.
 ROW, DOT, GAP, BREAK = 22, 4.5, 14, 10
@@ -52,6 +53,7 @@ class Row:
     dots: list[Dot] = field(default_factory=list)
     goes: bool = False  # taken by the rollback that is asked for
     is_free: bool = False  # could be undone alone now
+    viewer: int = 0  # who asked it, where the run is of viewers
 
 
 @dataclass
@@ -82,6 +84,10 @@ class Picture:
     hidden: int = 0  # how many steps the rollback takes that have no row
     asked: str = ""
     shows_free: bool = False
+
+    def viewers(self) -> list[int]:
+        """The viewers who asked the steps that have rows."""
+        return sorted({row.viewer for row in self.rows} - {0})
 
 
 # ---- Lanes ---------------------------------------------------------------------------------------
@@ -143,9 +149,10 @@ class Layout:
         self.picture = picture
         names = [picture.start_name, *(row.name for row in picture.rows)]
         self.numbers = MARGIN + max(width_of(name, SMALL, True) for name in names)
+        self.marks = width_of_marks(picture.viewers())  # the room for viewers' marks, at the right of the numbers
         self.lanes: dict[str, int] = {}
         self.bands: list[tuple[str, int, int]] = []
-        at = self.numbers + 8
+        at = self.numbers + 8 + (self.marks + 4 if self.marks else 0)
         for band in dict.fromkeys(band_of(lane) for lane in picture.lanes):
             at = self.put_band(band, at + (GAP if band else 0))
         self.right = round(at)
@@ -156,8 +163,10 @@ class Layout:
         self.put_rows()
         self.bottom = self.parts[-1].bottom
         self.words = self.bottom + 22
-        self.legend = self.put_legend(self.words + (20 if words else -4), legend)
-        self.height = self.legend[-1][1] + 16
+        self.legend = self.put_legend(self.words + (20 if words else -4), [(MARK, text) for text in legend])
+        viewers = [(self.marks, viewer_name(viewer)) for viewer in picture.viewers()]
+        self.viewers = self.put_legend(self.legend[-1][1] + LEGEND_ROW, viewers)
+        self.height = [*self.legend, *self.viewers][-1][1] + 16
 
     def put_band(self, band: str, left: float) -> float:
         """Puts the lanes of a band, from here on; returns where it ends."""
@@ -215,12 +224,12 @@ class Layout:
         self.breaks.append(y + (ROW + BREAK) // 2)
         return y + BREAK
 
-    def put_legend(self, y: int, texts: list[str]) -> list[tuple[int, int]]:
-        """Where each mark of the legend is, whose texts these are: in lines that fit."""
+    def put_legend(self, y: int, marks: list[tuple[float, str]]) -> list[tuple[int, int]]:
+        """Where each mark of the legend is, by its width and its text: in lines that fit."""
         places: list[tuple[int, int]] = []
         x: float = MARGIN
-        for text in texts:
-            width = MARK + 4 + width_of(text, SMALL)
+        for mark, text in marks:
+            width = mark + 4 + width_of(text, SMALL)
             if x > MARGIN and x + width > self.width - MARGIN:
                 x, y = MARGIN, y + LEGEND_ROW
             places.append((round(x), y))

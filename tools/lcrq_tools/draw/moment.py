@@ -1,7 +1,7 @@
 """Draws the queue at one moment of a run: its segments, its array, and where each actor stands.
 
-    python3 tools/moment.py SCRIPT [--line N] [-o OUT.svg] [--actors A] [--ring R] [--trace FILE]
-        [--refused] [--program P]
+    python3 tools/moment.py (SCRIPT | --history FILE) [--line N] [-o OUT.svg] [--actors A] [--ring R]
+        [--trace FILE] [--refused] [--program P]
 
 SCRIPT, or its first N lines, is run by the built program, over the fresh world, or with `--trace`
 over that trace; `-` is standard input, and without `-o`, or with `-o -`, the drawing goes to
@@ -15,6 +15,9 @@ The array is drawn where it was touched. An actor in a call is a chip: its contr
 of that row in the pseudo-code of docs/MODEL.md, its words that the row reads, and the place that its
 next step would touch, to which a line leads. What the last live step wrote is marked in its actor's
 colour.
+
+`--history` draws a moment of what several viewers did, by the calls that `lcrqdb view FILE.. --history`
+writes (`history.py`). The viewer of the last line is named, and has its mark.
 
 Where a line is refused that makes a step or is no command, as when a `--ring` is forgotten, nothing
 is drawn and the status is 1, unless `--refused` is given.
@@ -30,8 +33,9 @@ from collections.abc import Iterable, Iterator, Sequence
 from dataclasses import dataclass, field
 
 from lcrq_tools import model
-from lcrq_tools.draw.figure import Session, number_above_0, parser_of, script_name, segment_of, write_drawn
+from lcrq_tools.draw.figure import Session, kind_of, number_above_0, parser_of, script_name, segment_of, write_drawn
 from lcrq_tools.draw.queue_drawing import draw
+from lcrq_tools.draw.viewer_marks import viewer_name
 from lcrq_tools.faults import Fault
 
 SLOTS = 64
@@ -92,6 +96,7 @@ class Moment:
     idle: list[int]  # the actors that are in no call
     last: Step | None
     near: set[str] = field(default_factory=set)  # the segments that are never left out
+    viewer: int = 0  # who asked the last line, where the run is of viewers
 
 
 # ---- Memory ---------------------------------------------------------------------------------------
@@ -259,7 +264,8 @@ def titles_of(arguments: argparse.Namespace, session: Session) -> tuple[str, str
     undone = f", {session.undone} undone" if session.undone else ""
     live = f"{session.live} live step{'' if session.live == 1 else 's'}{undone}"
     line = lines[-1].decode("ascii", "replace") if lines else ""
-    where = f"after line {count}, {line}" if lines else "before the first line"
+    asked = "".join(f"{viewer_name(viewer)}, " for viewer in session.viewers[-1:])
+    where = f"after line {count}, {asked}{line}" if lines else "before the first line"
     name = f"{script_name(arguments)}, {session.world()}"
     return f"The queue of {name}, {where}: {live}", f"{where}: {live}"
 
@@ -270,7 +276,7 @@ def moment_of(arguments: argparse.Namespace) -> tuple[Moment, str]:
     count = len(session.script.splitlines())
     line: int | None = arguments.lines
     if line and count < line:
-        raise Fault(f"the script has {count} lines: --line names one of them")
+        raise Fault(f"the {kind_of(arguments)} has {count} lines: --line names one of them")
     replies = actors_of(session)
     ends = content_of(session, ["qhead", "qtail"])
     array = content_of(session, ["ahead", "atail", *(f"acell {slot}" for slot in range(SLOTS))])
@@ -283,6 +289,7 @@ def moment_of(arguments: argparse.Namespace) -> tuple[Moment, str]:
         title, caption, session.world(), ends["qhead"], ends["qtail"],
         segments_of(session, names, session.ring, [*ends.values()]), array, chips,
         [actor for actor, reply in replies.items() if reply.startswith("actor Idle ")], last, near,
+        session.viewers[-1] if session.viewers else 0,
     )
     return moment, session.refused
 
@@ -292,9 +299,10 @@ def moment_of(arguments: argparse.Namespace) -> tuple[Moment, str]:
 
 def parser() -> argparse.ArgumentParser:
     """The command line."""
-    it = parser_of("Draws the queue at one moment of a run.", "moment.py session.script --line 7 -o moment.svg")
-    about = "the moment after line N, in place of the last one"
-    it.add_argument("--line", dest="lines", metavar="N", type=number_above_0, help=about)
+    about = "Draws the queue at one moment of a run, of a script or of several viewers."
+    it = parser_of(about, "moment.py session.script --line 7 -o moment.svg")
+    line = "the moment after line N, in place of the last one"
+    it.add_argument("--line", dest="lines", metavar="N", type=number_above_0, help=line)
     return it
 
 

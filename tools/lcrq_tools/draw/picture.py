@@ -1,8 +1,8 @@
 """Draws a run as a picture: who touched which place, in which order.
 
-    python3 tools/picture.py SCRIPT [-o OUT.svg] [--undo K | --roll K] [--free] [--from A] [--to B]
-        [--places PLACE,..] [--actor A,..] [--lines N] [--actors A] [--ring R] [--trace FILE]
-        [--refused] [--program P]
+    python3 tools/picture.py (SCRIPT | --history FILE) [-o OUT.svg] [--undo K | --roll K] [--free]
+        [--from A] [--to B] [--places PLACE,..] [--actor A,..] [--lines N] [--actors A] [--ring R]
+        [--trace FILE] [--refused] [--program P]
 
 SCRIPT, or its first N lines, is run by the built program, over the fresh world, or with `--trace`
 over that trace; `-` is standard input, and without `-o`, or with `-o -`, the picture goes to
@@ -28,6 +28,10 @@ lane there though it makes no step. `--places` draws only steps at one of these 
 may be given more than once. Steps keep their numbers, and a break stands where some are left out.
 At most 200 rows are drawn.
 
+`--history` draws what several viewers did, by the calls that `lcrqdb view FILE.. --history` writes
+(`history.py`). Beside each step stands the mark of the viewer whose line made it, whoever undid it or
+made it again, and the legend names the marks.
+
 Where a line is refused that makes a step or is no command, as when a `--ring` is forgotten, nothing
 is drawn and the status is 1, unless `--refused` is given.
 
@@ -44,8 +48,9 @@ from dataclasses import dataclass
 from pathlib import Path
 from typing import TypedDict
 
+from lcrq_tools.draw.askers import viewers_after
 from lcrq_tools.draw.drawing import draw
-from lcrq_tools.draw.figure import Session, number_above_0, parser_of, script_name, segment_of, write_drawn
+from lcrq_tools.draw.figure import Session, kind_of, number_above_0, parser_of, script_name, segment_of, write_drawn
 from lcrq_tools.draw.lanes import Call, Picture, Row, actor_lane, dot_of, order_of
 from lcrq_tools.faults import Fault
 from lcrq_tools.program import Broken, Driven
@@ -69,6 +74,16 @@ def row_of(number: int, record: str, live: int) -> Row:
     point = "" if word == "go" else " ".join(rest if word == "starve" else [word, *rest])
     name, begins = str(number) if number <= live else "undone", word not in ("go", "starve")
     return Row(name, number, int(actor), point, begins, place, access, answer, "" if reply == "-" else reply)
+
+
+def rows_of(session: Session) -> list[Row]:
+    """The rows of all steps, each with its viewer where the run has viewers."""
+    rows = [row_of(at, record, session.live) for at, record in enumerate(records_of(session), 1)]
+    if session.viewers:
+        lines = len(session.viewers)
+        for row, viewer in zip(rows, viewers_after(session, [lines])[lines]):
+            row.viewer = viewer
+    return rows
 
 
 def parts_of(place: str) -> list[str]:
@@ -130,7 +145,7 @@ def window_of(arguments: argparse.Namespace, count: int) -> tuple[int, int]:
     first: int = arguments.first or 1
     last: int = arguments.last or count
     if not count:
-        raise Fault("the script leaves no step to draw")
+        raise Fault(f"the {kind_of(arguments)} leaves no step to draw")
     if not 1 <= first <= last <= count:
         raise Fault(f"the run has the steps 1 to {count}: --from and --to name a part of them")
     return first, last
@@ -413,7 +428,7 @@ def picture_of(arguments: argparse.Namespace) -> tuple[Picture, str]:
     session = Session(arguments)
     window = window_of(arguments, session.live + session.undone)
     choice = Choice(*window, places_of(arguments, session), actors_of(arguments, session))
-    all_rows = [row_of(at, record, session.live) for at, record in enumerate(records_of(session), 1)]
+    all_rows = rows_of(session)
     rows = choice.rows_of(all_rows, undo or roll)
     picture = drawn_rows(session, choice, all_rows, rows, trace_of(arguments))
     if undo:
@@ -444,7 +459,8 @@ def title_of(arguments: argparse.Namespace, session: Session, picture: Picture) 
 
 def parser() -> argparse.ArgumentParser:
     """The command line."""
-    it = parser_of("Draws the run of a script as a picture.", "picture.py session.script --undo 8 -o run.svg")
+    about = "Draws the run of a script, or of several viewers, as a picture."
+    it = parser_of(about, "picture.py session.script --undo 8 -o run.svg")
     asked = it.add_mutually_exclusive_group()
     asked.add_argument("--undo", metavar="K", type=number_above_0, help="show what the line `undo K` is answered")
     asked.add_argument("--roll", metavar="K", type=number_above_0, help="shade the steps that `roll K` takes")

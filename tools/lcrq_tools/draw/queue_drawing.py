@@ -15,6 +15,7 @@ from lcrq_tools.draw.figure import (
     ASKED, ASKED_WORDS, BAND, DARK, GREY, GROUND, HEAD, LANE, MARGIN, PLAIN, SMALL,
     colour_of, element, group, mixed, number, svg, width_of, words_at,
 )
+from lcrq_tools.draw.viewer_marks import mark_at, viewer_name, width_of_marks
 
 if TYPE_CHECKING:
     from lcrq_tools.draw.moment import Chip, Moment
@@ -209,8 +210,14 @@ def chip_lines(layout: Layout, chip: "Chip") -> list[str]:
     return named("chip", lines, actor=chip.actor, place=chip.place or "-")
 
 
+def viewer_lines(layout: Layout, y: float) -> list[str]:
+    """The mark of the viewer who asked the last line, if there is one."""
+    viewer = layout.moment.viewer
+    return mark_at(viewer, MARGIN + width_of_marks([viewer]) / 2, y) if viewer else []
+
+
 def legend_lines(layout: Layout, marks: Marks) -> Iterator[str]:
-    """What a pin and a mark are, and who is in no call."""
+    """What a pin and the marks are, and who is in no call."""
     x: float = MARGIN
     y = layout.foot
     if layout.led:
@@ -224,6 +231,11 @@ def legend_lines(layout: Layout, marks: Marks) -> Iterator[str]:
         yield words_at(x + 22, y, "written by the last step", SMALL, GREY)
     if layout.idle():
         yield words_at(MARGIN, y + 18, layout.idle(), SMALL, GREY)
+    if layout.moment.viewer:
+        down = layout.bottom - 16
+        yield from viewer_lines(layout, down)
+        words = f"{viewer_name(layout.moment.viewer)}, who asked the last line"
+        yield words_at(MARGIN + layout.asker, down + 4, words, SMALL, GREY)
 
 
 def sentences(moment: "Moment", said: str) -> Iterator[str]:
@@ -243,7 +255,8 @@ def draw(moment: "Moment", said: str) -> str:
     """The moment as SVG; `said` is its last step in words."""
     layout, marks = Layout(moment, said), Marks(moment)
     lines = [
-        words_at(MARGIN, 20, layout.caption(), HEAD, DARK, bold=True),
+        *viewer_lines(layout, 16.0),
+        words_at(MARGIN + layout.asker, 20, layout.caption(), HEAD, DARK, bold=True),
         words_at(MARGIN, 37, said, PLAIN, marks.dark),
     ]
     if layout.apart:

@@ -1,7 +1,7 @@
 """Makes a run a page: one HTML file on which a reader goes along the run, line by line.
 
-    python3 tools/page.py SCRIPT -o OUT.html [--lines A:B] [--actors A] [--ring R] [--trace FILE]
-        [--refused] [--program P]
+    python3 tools/page.py (SCRIPT | --history FILE) -o OUT.html [--lines A:B] [--actors A] [--ring R]
+        [--trace FILE] [--refused] [--program P]
 
 SCRIPT is run by the built program, over the fresh world, or with `--trace` over that trace; `-` is
 standard input, and without `-o`, or with `-o -`, the page goes to standard output. The file needs
@@ -14,8 +14,11 @@ line on and back, Home and End to the ends; a slider and a click on a line do to
 address leads to a moment. `copy` gives the command that shows the same by the program. Printed it
 is a handout: lines with replies, and the queue at each bookmark, or at the end.
 
-A page takes 400 lines at most: `--lines A:B` makes one of the lines A to B of a longer script. A script
-of viewers has no page: a view's report doesn't give the order of its history.
+`--history` makes a page of what several viewers did, by the calls that `lcrqdb view FILE.. --history`
+writes (`history.py`). Each line and each step has the mark of the viewer who asked it, and above them
+the current line's viewer is named.
+
+A page takes 400 lines at most: `--lines A:B` makes one of the lines A to B of a longer script.
 
 Where a line is refused that makes a step or is no command, as when a `--ring` is forgotten, nothing
 is made and the status is 1, unless `--refused` is given.
@@ -32,9 +35,11 @@ from pathlib import Path
 from string import Template
 
 from lcrq_tools import model
-from lcrq_tools.draw.figure import ACTORS, parser_of, script_name, write_drawn
+from lcrq_tools.draw.figure import ACTORS, kind_of, parser_of, script_name, write_drawn
 from lcrq_tools.faults import Fault
 from lcrq_tools.page import page_lanes, page_moments, page_parts
+from lcrq_tools.page.page_lanes import Lanes
+from lcrq_tools.page.page_viewers import Marks
 from lcrq_tools.page.run_rows import Rows, filled_rows
 from lcrq_tools.page.run_states import Asked, State, states_of
 
@@ -85,20 +90,22 @@ def start_of(asked: Asked, lanes: list[str], above: int) -> dict[str, str]:
 
 def command_of(arguments: argparse.Namespace) -> list[str]:
     """The command that shows a moment by the program, in front of the number of its line and behind it."""
-    script: str = arguments.script
     trace: str | None = arguments.trace
-    name = "s.script" if script == "-" else Path(script).name
     if trace:
         words = ["lcrqdb", "load", Path(trace).name]
     else:
         options: list[tuple[str, str | None]] = [("--actors", arguments.actors), ("--ring", arguments.ring)]
         words = ["lcrqdb", "run", *(word for option, value in options if value for word in (option, value)), "-"]
-    return ["head -n ", f" {shlex.quote(name)} | {shlex.join(words)}"]
+    given = arguments.script if arguments.history is None else arguments.history
+    name = shlex.quote(f"s.{kind_of(arguments)}" if given == "-" else Path(given).name)
+    if arguments.history is None:
+        return ["head -n ", f" {name} | {shlex.join(words)}"]
+    return [f"grep '^[0-9]' {name} | head -n ", f" | cut -d ' ' -f 2- | {shlex.join(words)}"]
 
 
 def heading_of(it: State) -> str:
     """What stands above a moment of a handout."""
-    return f"After line {it.line}, {it.text}: {it.reply}" if it.line else "Before the first line"
+    return f"After line {it.line}, {it.asked()}: {it.reply}" if it.line else "Before the first line"
 
 
 def handout_of(states: list[State]) -> list[tuple[int, str]]:
@@ -125,7 +132,7 @@ def asked_of(arguments: argparse.Namespace) -> Asked:
     first, last = part or (1, None)
     asked = Asked(argparse.Namespace(**vars(arguments) | {"lines": last}), first - 1)
     if last and last > len(asked.lines):
-        raise Fault(f"the script has {len(asked.lines)} lines: --lines names some of them")
+        raise Fault(f"the {kind_of(arguments)} has {len(asked.lines)} lines: --lines names some of them")
     return asked
 
 
@@ -139,6 +146,25 @@ def page_of(arguments: argparse.Namespace) -> tuple[str, str]:
     return made_of(arguments, asked, states, Rows(states)), asked.session.refused
 
 
+def lanes_of(arguments: argparse.Namespace, asked: Asked, states: list[State], rows: Rows, above: int) -> Lanes:
+    """The drawing of the steps, of which so many stand above the first row."""
+    drawn, lanes = filled_rows(asked, states, rows, shown_rows(states, rows, above))
+    name = f"after {above}" if above else "start" if arguments.trace else ""
+    most = max(len(it.rows) for it in states) - above
+    marks = Marks({*(it.viewer for it in states), *(row.viewer for row in drawn.values())} - {0})
+    return Lanes(drawn, lanes, start_of(asked, lanes, above) if name else {}, name, most, marks)
+
+
+def fields_of(arguments: argparse.Namespace, states: list[State], above: int, figure: Lanes) -> dict[str, object]:
+    """The page's data, but for its moments."""
+    fields = {
+        "first": states[0].line, "above": above, "colours": len(ACTORS), "height": page_lanes.LINE,
+        "border": page_lanes.BORDER, "command": command_of(arguments), "handout": handout_of(states),
+        "rows": figure.dots(),
+    }
+    return fields | ({"viewers": [it.viewer for it in states]} if figure.marks.viewers else {})
+
+
 def made_of(arguments: argparse.Namespace, asked: Asked, states: list[State], rows: Rows) -> str:
     """The page of these moments."""
     text = model.PAGE.read_text(encoding="utf-8")
@@ -146,23 +172,18 @@ def made_of(arguments: argparse.Namespace, asked: Asked, states: list[State], ro
     whys, chips = page_moments.whys_of(states), [page_moments.chips_of(it, code, steps) for it in states]
     sentences = page_moments.sentences_of(states, whys)
     above = above_of(states, rows)
-    drawn, lanes = filled_rows(asked, states, rows, shown_rows(states, rows, above))
-    name = f"after {above}" if above else "start" if arguments.trace else ""
-    most = max(len(it.rows) for it in states) - above
-    figure = page_lanes.Lanes(drawn, lanes, start_of(asked, lanes, above) if name else {}, name, most)
-    fields = {
-        "first": states[0].line, "above": above, "colours": len(ACTORS), "height": page_lanes.LINE,
-        "border": page_lanes.BORDER, "command": command_of(arguments), "handout": handout_of(states),
-        "rows": figure.dots(),
-    }
+    figure = lanes_of(arguments, asked, states, rows, above)
+    marks = figure.marks
     moments = page_moments.differences_of(page_moments.whole_states(states, chips, sentences))
+    lines = (page_parts.line_item(it, why, marks.in_line(it.viewer)) for it, why in zip(states, whys))
     return filled(
         title=escape(f"{script_name(arguments)}, {asked.session.world()}"),
-        style="\n".join([page_parts.colours(), page_parts.room(states, chips), text_in("page.css")]),
-        script=text_in("page.js"),
-        data=data_of(fields, moments),
+        style="\n".join([page_parts.colours(), page_parts.room(states, chips), text_in("page.css"), *marks.style()]),
+        script="\n".join([text_in("page.js"), *marks.script()]),
+        data=data_of(fields_of(arguments, states, above, figure), moments),
         first=states[0].line, last=states[-1].line,
-        lines="\n".join(map(page_parts.line_item, states, whys)),
+        asker=marks.header(), viewers=marks.legend(),
+        lines="\n".join(lines),
         longest=page_parts.sizers(sentences),
         command=escape(str(states[-1].line).join(command_of(arguments))),
         queue=page_parts.queue(states, asked.session.ring),
@@ -196,9 +217,10 @@ def part_of(text: str) -> tuple[int, int]:
 
 def parser() -> argparse.ArgumentParser:
     """The command line."""
-    about = "Makes a run a page. A script of viewers has none: a view's report doesn't give the order of its history."
+    about = "Makes the run of a script, or of several viewers, a page."
     it = parser_of(about, "page.py session.script -o run.html", "OUT.html")
-    it.usage = "page.py SCRIPT [-o OUT.html] [--lines A:B] [--actors A] [--ring R] [--trace FILE] [--program P]"
+    options = "[-o OUT.html] [--lines A:B] [--actors A] [--ring R] [--trace FILE] [--refused] [--program P]"
+    it.usage = f"page.py (SCRIPT | --history FILE) {options}"
     it.add_argument("--lines", dest="part", metavar="A:B", type=part_of, help="the lines A to B in place of all")
     return it
 

@@ -13,6 +13,7 @@ from lcrq_tools.draw.figure import (
     colour_of, element, number, segment_of, width_of, words_at,
 )
 from lcrq_tools.page.page_parts import actor_class
+from lcrq_tools.page.page_viewers import Marks
 from lcrq_tools.page.run_rows import Row
 
 # Sizes of the drawing, in its pixels, and how large these are.
@@ -50,14 +51,16 @@ class Dots(TypedDict):
 class Lanes:
     """The drawing of the steps: its heads, and its rows, which the page moves."""
 
-    def __init__(self, rows: dict[int, Row], lanes: list[str], start: dict[str, str], start_name: str, most: int):
-        self.rows, self.lanes, self.start, self.start_name = rows, lanes, start, start_name
+    def __init__(
+        self, rows: dict[int, Row], lanes: list[str], start: dict[str, str], start_name: str, most: int, marks: Marks
+    ):
+        self.rows, self.lanes, self.start, self.start_name, self.marks = rows, lanes, start, start_name, marks
         self.first = LINE + 4.0 if start_name else 12.0
         self.height = round(self.first + LINE * most + BORDER)
         self.numbers = MARGIN + max(width_of(name, SMALL) for name in ("undone", start_name))
         self.at: dict[str, int] = {}
         self.bands: list[tuple[str, int, int]] = []
-        right = self.numbers + 6
+        right = self.numbers + 6 + (marks.width + 4 if marks.viewers else 0)
         for band in dict.fromkeys(map(band_of, lanes)):
             right = self.put_band(band, right + (GAP if band else 0))
         self.width = round(max(right + MARGIN, 420.0))
@@ -142,6 +145,7 @@ class Lanes:
         lines = [
             element("rect", class_="ground", x=1, y=1 - HALF, width=self.width - 2, height=LINE - 2, rx=4),
             words_at(self.numbers, 4, "", SMALL, GREY, "end").replace("<text", '<text class="number"'),
+            self.marks.in_row(row.viewer, self.numbers + 6),
             element("line", x1=x, y1=0, x2=end, y2=0, stroke=colour, stroke_opacity=0.6),
             words_at(x - 9, 4, row.point, PLAIN, DARK, "end"),
             *over(x, 0, row.reply, PLAIN, dark, GROUND, True),

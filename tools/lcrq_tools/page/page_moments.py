@@ -94,7 +94,7 @@ def sentences_of(states: list[State], whys: list[str]) -> list[str]:
     pairs = zip(states, states[1:], whys[1:])
     return [
         f"{begins}: {first.live} live steps, {first.undone} undone.",
-        *(f"Line {it.line}, {it.text}: {it.reply}. {what_changed(before, it, why)}" for before, it, why in pairs),
+        *(f"Line {it.line}, {it.asked()}: {it.reply}. {what_changed(before, it, why)}" for before, it, why in pairs),
     ]
 
 

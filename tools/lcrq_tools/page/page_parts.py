@@ -156,14 +156,14 @@ def widths_of(states: list[State]) -> dict[str, float]:
 # ---- Lines ----------------------------------------------------------------------------------------
 
 
-def line_item(it: State, why: str) -> str:
-    """A line with its reply, and why it is refused."""
+def line_item(it: State, why: str, mark: str) -> str:
+    """A line with its reply, the mark of its viewer if it has one, and why it is refused."""
     if not it.line:
         words = '<span class="no">0</span><span class="words">before the first line</span>'
         return f'<li class="start"><button type="button" tabindex="-1">{words}</button></li>'
     kind = ' class="refused"' if it.reply.startswith("refused ") else ""
     more = f'<p class="why">{escape(why)}</p>' if why else ""
-    words = f'<span class="no">{it.line}</span><code>{escape(it.text)}</code><code>{escape(it.reply)}</code>'
+    words = f'<span class="no">{it.line}</span>{mark}<code>{escape(it.text)}</code><code>{escape(it.reply)}</code>'
     return f'<li{kind}><button type="button" tabindex="-1">{words}</button>{more}</li>'
 
 

@@ -10,7 +10,9 @@ import itertools
 from dataclasses import dataclass, field
 
 from lcrq_tools.draw.figure import segment_of
+from lcrq_tools.draw.askers import viewers_after
 from lcrq_tools.draw.lanes import Dot, dot_of
+from lcrq_tools.draw.viewer_marks import viewer_name
 from lcrq_tools.page.run_states import Asked, State, event_of, without_number
 
 
@@ -25,13 +27,15 @@ class Row:
     answer: str
     reply: str
     dots: list[Dot] = field(default_factory=list)
+    viewer: int = 0  # who asked it, where the run is of viewers
 
     def sentence(self) -> str:
         """The step in words, without its number."""
+        begins = f"{viewer_name(self.viewer)}, actor {self.actor}" if self.viewer else f"actor {self.actor}"
         if self.place == "-":
-            return f"actor {self.actor}, {self.point}"
+            return f"{begins}, {self.point}"
         reply = f"; the call replies {self.reply}" if self.reply else ""
-        return f"actor {self.actor} at {self.point} {self.access} {self.place}: {self.answer}{reply}"
+        return f"{begins} at {self.point} {self.access} {self.place}: {self.answer}{reply}"
 
 
 class Rows:
@@ -155,7 +159,17 @@ def filled_rows(
             along.setdefault(at, {})[position] = row
     for at, them in along.items():
         fill_along(asked, states[at], them, lanes)
+    if asked.session.viewers:
+        put_viewers(asked, states, rows, drawn)
     return drawn, lanes
+
+
+def put_viewers(asked: Asked, states: list[State], rows: Rows, drawn: dict[int, Row]) -> None:
+    """Puts into each row the viewer who asked its step."""
+    viewers = viewers_after(asked.session, {states[at].line for at, _ in rows.made})
+    for number, row in drawn.items():
+        at, position = rows.made[number]
+        row.viewer = viewers[states[at].line][position]
 
 
 def fill_along(asked: Asked, it: State, drawn: dict[int, Row], lanes: list[str]) -> None:

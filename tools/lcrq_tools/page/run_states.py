@@ -13,6 +13,7 @@ from dataclasses import dataclass, field
 
 from lcrq_tools.draw.figure import Session, segment_of
 from lcrq_tools.draw.moment import SLOTS, in_order, names_of
+from lcrq_tools.draw.viewer_marks import viewer_name
 from lcrq_tools.faults import Fault
 from lcrq_tools.program import run
 
@@ -36,6 +37,11 @@ class State:
     linked: list[str | int] = field(default_factory=list)  # those that are drawn; a number for so many left out
     apart: list[str] = field(default_factory=list)
     rows: list[int] = field(default_factory=list)  # of the steps of `records`
+    viewer: int = 0  # who asked the line, where the run is of viewers
+
+    def asked(self) -> str:
+        """The line, behind its viewer if it has one."""
+        return f"{viewer_name(self.viewer)}, {self.text}" if self.viewer else self.text
 
     def busy(self) -> list[int]:
         """The actors that are in a call."""
@@ -105,7 +111,8 @@ def lengths_of(asked: Asked) -> list[State]:
         _, live, undone = replies[-1].split(" ")
         text = asked.lines[at - 1].decode("ascii", "replace") if at else ""
         reply = replies[0] if at > asked.first else ""
-        states.append(State(at, text, reply, int(live), int(undone)))
+        viewer = asked.session.viewers[at - 1] if at and asked.session.viewers else 0
+        states.append(State(at, text, reply, int(live), int(undone), viewer=viewer))
     return states
 
 

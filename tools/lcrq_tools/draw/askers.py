@@ -1,0 +1,135 @@
+"""Which viewer asked each step of a run, whose lines are a history.
+
+A step belongs to the viewer whose line made it first, also after others undid it or made it again.
+Steps of the start belong to no viewer. The lines are gone along one by one, and each reply says what
+moved; which steps a `roll` takes is asked of the program, since that depends on what they touched.
+"""
+
+from collections import Counter
+from collections.abc import Collection, Sequence
+from dataclasses import dataclass, field
+from typing import NamedTuple
+
+from lcrq_tools.draw.figure import Session
+from lcrq_tools.faults import Fault
+from lcrq_tools.program import Broken, Driven, lines_of
+
+NOBODY = 0  # in place of a viewer, for a step of the start
+
+
+class AskedStep(NamedTuple):
+    """A step, by who asked it and by its actor."""
+
+    viewer: int
+    actor: int
+
+
+@dataclass
+class Steps:
+    """The steps of a run at one of its lines."""
+
+    live: list[AskedStep]
+    undone: list[AskedStep]  # in the order of `redo`
+    marks: dict[str, list[AskedStep]] = field(default_factory=dict)  # of each bookmark its steps
+
+    def viewers(self) -> list[int]:
+        """The viewers of the live steps, and then of the undone ones."""
+        return [step.viewer for step in (*self.live, *self.undone)]
+
+    def follow(self, viewer: int, line: str, reply: str, rolled: Sequence[int]) -> None:
+        """Does what a line of this viewer did, by its reply. `rolled` are the actors of the steps that a
+        `roll` took."""
+        word, _, rest = line.partition(" ")
+        if reply.startswith("ok "):
+            self.live.append(AskedStep(viewer, int(rest.split(" ")[0])))
+            self.undone = []
+        elif reply.startswith("marked "):
+            self.marks[rest] = [*self.live]
+        elif reply == "dropped":
+            self.marks.pop(rest, None)
+        elif reply.startswith("at "):
+            live, undone = counts_in(reply)
+            self.move(word, rest, live, rolled)
+            if (len(self.live), len(self.undone)) != (live, undone):
+                raise Fault(f"the steps can't be followed: `{line}` is answered {reply}")
+
+    def move(self, word: str, rest: str, live: int, rolled: Sequence[int]) -> None:
+        """Moves steps as a line that begins with this word does, after which so many are live."""
+        count = len(self.live)
+        if word in ("undo", "back"):
+            first = int(rest) - 1 if word == "undo" and rest else live
+            self.take([first] if word == "undo" else range(first, count))
+        elif word == "roll":
+            self.take(last_of(self.live, rolled))
+        elif word in ("redo", "forward"):
+            made = live - count
+            self.live, self.undone = self.live + self.undone[:made], self.undone[made:]
+        elif word == "goto":
+            self.live, self.undone = [*self.marks.get(rest, [AskedStep(NOBODY, 0)] * live)], []
+
+    def take(self, places: Collection[int]) -> None:
+        """Undoes the steps at these places, the last one first."""
+        taken = {*places}
+        self.undone = [self.live[at] for at in sorted(taken)] + self.undone
+        self.live = [step for at, step in enumerate(self.live) if at not in taken]
+
+
+def last_of(steps: Sequence[AskedStep], actors: Sequence[int]) -> list[int]:
+    """The places of the last steps of these actors, as many of each as it is named."""
+    left, places = Counter(actors), []
+    for at in range(len(steps) - 1, -1, -1):
+        if left[steps[at].actor]:
+            left[steps[at].actor] -= 1
+            places.append(at)
+    return places
+
+
+# ---- What the program replies ---------------------------------------------------------------------
+
+
+def counts_in(reply: str) -> tuple[int, int]:
+    """How many steps are live and how many undone, by the reply `at LIVE UNDONE`."""
+    _, live, undone = reply.split(" ")
+    return int(live), int(undone)
+
+
+def actors_of(driven: Driven, live: int, undone: int) -> list[int]:
+    """The actors of the first undone steps, so many of them: each step is made again for that."""
+    driven.ask(f"forward {undone}")
+    records = [driven.ask(f"step {live + at}")[0] for at in range(1, undone + 1)]
+    driven.ask(f"back {undone}")
+    return [int(record.split("; ")[1].split(" ")[1]) for record in records]
+
+
+def start_of(driven: Driven) -> Steps:
+    """The steps before the first line, which nobody asked."""
+    live, undone = counts_in(driven.ask("len")[0])
+    driven.ask(f"back {live}")
+    steps = [AskedStep(NOBODY, actor) for actor in actors_of(driven, 0, live + undone)]
+    driven.ask(f"forward {live}")
+    return Steps(steps[:live], steps[live:])
+
+
+def rolled_by(driven: Driven, line: str, reply: str, before: int) -> list[int]:
+    """The actors of the steps that a line took, if it is a `roll`. So many were undone before it."""
+    if not line.startswith("roll ") or not reply.startswith("at "):
+        return []
+    live, undone = counts_in(reply)
+    return actors_of(driven, live, undone - before)
+
+
+def viewers_after(session: Session, lines: Collection[int]) -> dict[int, list[int]]:
+    """The viewers of the live and then of the undone steps after each of these numbers of lines."""
+    script = lines_of(session.script.decode("latin-1"))
+    try:
+        with Driven(session.words) as driven:
+            steps = start_of(driven)
+            found = {0: steps.viewers()}
+            for number, (viewer, line) in enumerate(zip(session.viewers, script), 1):
+                reply = driven.ask(line)[0]
+                steps.follow(viewer, line, reply, rolled_by(driven, line, reply, len(steps.undone)))
+                if number in lines:
+                    found[number] = steps.viewers()
+            return found
+    except (Broken, OSError) as fault:
+        raise Fault(f"the viewers of the steps can't be asked for: {fault}") from fault

@@ -1,0 +1,121 @@
+"""The marks of viewers, in pictures, in moments and on pages."""
+
+import unittest
+from xml.etree import ElementTree
+
+from lcrq_tools.draw import boxes, drawing, queue_drawing, viewer_marks
+from lcrq_tools.draw.lanes import Dot, Layout, Picture, Row
+from lcrq_tools.draw.moment import Moment, Segment
+from lcrq_tools.page import page_parts
+from lcrq_tools.page.page_viewers import Marks
+from lcrq_tools.page.run_states import State
+
+SVG = "{http://www.w3.org/2000/svg}"
+ALL = range(1, 65)
+
+
+def picture(*viewers: int) -> Picture:
+    """A picture of steps that these viewers asked; 0 is nobody."""
+    dots = [Dot("qtail", "read", "0.0")]
+    rows = [
+        Row(str(at), at, 1, "E1", False, "qtail", "read", "0.0", "", dots, viewer=viewer)
+        for at, viewer in enumerate(viewers, 1)
+    ]
+    return Picture("A run", ["actor 1", "qtail"], rows, {}, 1, len(rows))
+
+
+def moment(viewer: int) -> Moment:
+    """The queue before any step, after a line of this viewer."""
+    segment = Segment("0.0", "0", "open 0", "none", ["1 0 none", "1 1 none"])
+    array = {"ahead": "0", "atail": "0"} | {f"acell {at}": "empty" for at in range(64)}
+    return Moment("A queue", "after line 1", "4 actors", "0.0", "0.0", [segment], array, [], [1], None, set(), viewer)
+
+
+def marks_in(svg: str) -> list[tuple[str, str]]:
+    """The viewers whose marks a drawing has, each with the words of the mark."""
+    groups = [it for it in ElementTree.fromstring(svg).iter(f"{SVG}g") if it.get("class") == "viewer"]
+    return [(it.attrib["data-viewer"], it.findtext(f"{SVG}text", "")) for it in groups]
+
+
+class Frames(unittest.TestCase):
+    """The mark of a viewer."""
+
+    def test_all_marks_differ_without_colours(self) -> None:
+        marks = {"".join(viewer_marks.mark_at(viewer, 20.0, 10.0)).partition(">")[2] for viewer in ALL}
+        self.assertEqual(len(marks), len(ALL))
+        labels = {viewer_marks.label_of(viewer) for viewer in ALL}
+        self.assertEqual(len(labels), len(ALL))
+
+    def test_neighbours_have_other_frames(self) -> None:
+        frames = {(viewer_marks.outline(viewer, 20.0, 10.0), viewer_marks.is_dark(viewer)) for viewer in range(1, 9)}
+        self.assertEqual(len(frames), 8)
+        self.assertEqual([viewer for viewer in ALL if viewer_marks.is_dark(viewer)][:9], [*range(9, 17), 25])
+
+    def test_a_frame_is_around_its_words(self) -> None:
+        for viewer in ALL:
+            half, room = viewer_marks.half_of(viewer), viewer_marks.width_of_marks([viewer])
+            corners = viewer_marks.FRAMES[(viewer - 1) % 8]
+            self.assertTrue(all(half + beyond < room / 2 for _, beyond, _ in corners), viewer)
+        self.assertEqual(viewer_marks.width_of_marks([]), 0.0)
+        self.assertEqual(viewer_marks.width_of_marks(ALL), viewer_marks.width_of_marks([10]))
+
+
+class Pictures(unittest.TestCase):
+    """The marks of a picture."""
+
+    def test_a_step_has_the_mark_of_its_viewer(self) -> None:
+        svg = drawing.draw(picture(2, 1, 0, 12))
+        named = [("1", "V1"), ("2", "V2"), ("12", "V12")]
+        self.assertEqual(marks_in(svg), [("2", "V2"), ("1", "V1"), ("12", "V12"), *named])
+        texts = [it.text for it in ElementTree.fromstring(svg).iter(f"{SVG}text")]
+        self.assertEqual([it for it in texts if it and it.startswith("viewer ")], ["viewer 1", "viewer 2", "viewer 12"])
+
+    def test_its_words_name_the_viewers(self) -> None:
+        self.assertIn("1: viewer 2, actor 1 at E1 read qtail: 0.0. 2: actor 1 at E1", drawing.about(picture(2, 0)))
+
+    def test_without_viewers_nothing_moves(self) -> None:
+        none, one = (Layout(picture(viewer), 0.0, ["write"]) for viewer in (0, 1))
+        self.assertEqual((none.marks, none.viewers), (0.0, []))
+        self.assertGreater(one.lanes["actor 1"] - none.lanes["actor 1"], one.marks)
+        self.assertEqual(marks_in(drawing.draw(picture(0))), [])
+
+    def test_the_legend_of_many_viewers_goes_on_below(self) -> None:
+        layout = Layout(picture(*ALL), 0.0, ["write"])
+        self.assertGreater(len({y for _, y in layout.viewers}), 1)
+        self.assertEqual(len({*layout.viewers}), len(ALL))
+        self.assertGreater(layout.height, max(y for _, y in layout.viewers))
+
+
+class Moments(unittest.TestCase):
+    """The mark of a moment."""
+
+    def test_the_last_line_has_the_mark_of_its_viewer(self) -> None:
+        self.assertEqual(marks_in(queue_drawing.draw(moment(3), "no step yet")), [("3", "V3"), ("3", "V3")])
+        self.assertEqual(marks_in(queue_drawing.draw(moment(0), "no step yet")), [])
+
+    def test_the_drawing_has_room_for_it(self) -> None:
+        none, one = (boxes.Layout(moment(viewer), "no step yet") for viewer in (0, 64))
+        self.assertEqual((none.asker, one.height - none.height), (0.0, 18))
+
+
+class Pages(unittest.TestCase):
+    """The marks of a page."""
+
+    def test_a_page_of_a_script_has_none(self) -> None:
+        marks = Marks([])
+        self.assertEqual((marks.legend(), marks.header(), marks.style(), marks.script()), ("", "", [], []))
+        self.assertEqual((marks.in_line(0), marks.in_row(0, 9.0)), ("", ""))
+
+    def test_a_screen_reader_hears_a_viewer(self) -> None:
+        marks, state = Marks([2, 1]), State(3, "go 1", "ok 3", 3, 0, viewer=2)
+        item = page_parts.line_item(state, "", marks.in_line(2))
+        mark = '<svg class="asker" role="img" aria-label="viewer 2"><use href="#viewer-2"/></svg>'
+        self.assertIn(f"{mark}<code>go 1</code>", item)
+        self.assertEqual(state.asked(), "viewer 2, go 1")
+        self.assertEqual(State(3, "go 1", "ok 3", 3, 0).asked(), "go 1")
+
+    def test_the_list_of_viewers_names_each_mark(self) -> None:
+        legend = Marks([2, 1]).legend()
+        for viewer in (1, 2):
+            self.assertEqual(legend.count(f'<symbol id="viewer-{viewer}"'), 1)
+            self.assertIn(f'<use href="#viewer-{viewer}"/></svg><span>viewer {viewer}</span></li>', legend)
