@@ -3,7 +3,8 @@
 //! `lcrqdb run FILE` runs a script over a fresh world: each line is one command, whose reply is
 //! written as one line to standard output before the next line is read. `lcrqdb load TRACE` runs
 //! the script on standard input over the run of a trace. `lcrqdb view FILE..` runs several scripts
-//! at once over one fresh world, each by a viewer in its own thread.
+//! at once over one fresh world or, with `--start`, over the run of a trace, each by a viewer in its
+//! own thread.
 //!
 //! All of this is done by the library `rd_command_line`, which gets the words, the files and the
 //! three streams from `main`. Standard output has no buffer, so that a reply is written at once.

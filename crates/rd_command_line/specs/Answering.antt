@@ -1,17 +1,20 @@
 -- What the program does for the words of a command line, over files and streams. `remaining` gives
 -- the bytes that an opened file has left, where they are known, and `text` the text of a word. With
 -- `traced`, a trace follows the report of a run that came to its end.
-use Rattle.std.specs.Prelude.{◌≡◌, ◌≢◌, ◌⊎◌, ℕ, Bool, List, [], ◌∷◌, codes, length, map, Option, IfSome, Result, Ok, Err, Vec}
+use Rattle.std.specs.Prelude.{◌≡◌, ◌≢◌, ◌⊎◌, ℕ, Bool, List, [], ◌∷◌, codes, length, map, Option, None, Some, IfSome, Result, Ok, Err, Vec}
+use Rattle.std.specs.Borrow.{Bor}
 use Rattle.std.specs.Global.{Global}
 use Rattle.clap.specs.Walk.{Text}
 use Rattle.rd_marks.specs.BookState.{BookState}
 use Rattle.rd_script.specs.Streams.{Devices, IsUnused, Stream}
 use Rattle.rd_script.specs.Ring.{ring_length}
-use Rattle.rd_script.specs.AnyBook.{fresh_state}
+use Rattle.rd_script.specs.AnyBook.{any_state, fresh_state}
+use Rattle.rd_script.specs.declared.any_book.AnyBook.{AnyBook}
 use Rattle.rd_program.specs.declared.faults.ProgramFault.{ProgramFault}
 use Rattle.rd_program.specs.declared.faults.ProgramFault.TheVariants as program
-use Rattle.rd_program.specs.Program.{IsReadOrNoMemory, PlaysScript, ResumesTrace, AreUnused}
+use Rattle.rd_program.specs.Program.{IsReadOrNoMemory, LoadsBook, PlaysScript, ResumesTrace, AreUnused}
 use Rattle.rd_program.specs.Viewers.{ViewsOver}
+use Rattle.rd_program.specs.declared.setups.ViewExtras.{ViewExtras}
 use Rattle.rd_command_line.specs.declared.requests.Options.{Options}
 use Rattle.rd_command_line.specs.declared.requests.Options.TheVariants.{Run, View, Load}
 use Rattle.rd_command_line.specs.declared.requests.OptionsFault.{OptionsFault}
@@ -48,12 +51,32 @@ ResumesFile {F} remaining traced d result =
 
 -- a file was not read whole (`IsReadOrNoMemory` has the faults), and the output was not used; or
 -- this many files were opened, and their whole texts were viewed as scripts over a book in this
--- state
-abbrev pub ViewsFiles : {F : Type 0} → (F → Option (List ℕ)) → ℕ → BookState → Stream → Result ℕ ProgramFault → Type 0
-ViewsFiles {F} remaining count before output result =
+-- state, with these extras
+abbrev pub ViewsFiles : {F : Type 0} → (F → Option (List ℕ)) → ℕ → BookState → ViewExtras → Stream → Result ℕ ProgramFault → Type 0
+ViewsFiles {F} remaining count before extras output result =
     (((fault : ProgramFault) × (result ≡ Err fault) × IsReadOrNoMemory fault) × IsUnused output)
     ⊎ ((files : List F) × (scripts : List (Vec ℕ Global)) × (length files ≡ count)
-    × AreWholeTexts remaining files scripts × ViewsOver before scripts output result)
+    × AreWholeTexts remaining files scripts × ViewsOver before scripts extras output result)
+
+-- the result of loading the trace in a file: the file was not read whole (`IsReadOrNoMemory` has the
+-- faults); or it was opened, and its whole text was loaded
+abbrev pub LoadsFile : {F : Type 0} → (F → Option (List ℕ)) → Result AnyBook ProgramFault → Type 0
+LoadsFile {F} remaining result =
+    ((fault : ProgramFault) × (result ≡ Err fault) × IsReadOrNoMemory fault)
+    ⊎ ((opened : F) × (text : List ℕ) × IsWholeText remaining opened text × LoadsBook text result)
+
+-- the trace in a file was not loaded, and the output was not used; or it was loaded as a book, and
+-- then this many files were viewed over it, with these extras
+abbrev pub ViewsFilesFrom : {F : Type 0} → (F → Option (List ℕ)) → ℕ → ViewExtras → Stream → Result ℕ ProgramFault → Type 0
+ViewsFilesFrom remaining count extras output result =
+    ((fault : ProgramFault) × (result ≡ Err fault) × LoadsFile remaining (Err fault) × IsUnused output)
+    ⊎ ((book : AnyBook) × LoadsFile remaining (Ok book) × ViewsFiles remaining count (any_state book) extras output result)
+
+-- what `view` did: without the name of a trace to start with, it viewed this many files over a book
+-- in this state; with one, over the book of the trace in a file
+abbrev pub ViewsFilesAfter : {F : Type 0} → (F → Option (List ℕ)) → Option (Bor Text) → ℕ → BookState → ViewExtras → Stream → Result ℕ ProgramFault → Type 0
+ViewsFilesAfter remaining None count before extras output result = ViewsFiles remaining count before extras output result
+ViewsFilesAfter remaining (Some name) count before extras output result = ViewsFilesFrom remaining count extras output result
 
 -- what `run` did for a file's name over a book in this state. For the name `-` it played the script
 -- on the input; for any other name it played the script in a file, if that could be opened, and did
@@ -64,13 +87,13 @@ PlaysFileOrInput remaining name before traced d result =
     ⊎ ((name ≢ codes "-") × IsUnused d.input × PlaysFile remaining before traced d.output result)
 
 -- what the program did for these options, with this result: `run` and `view` over the options'
--- fresh world, `load` over the book of a trace. `view` does not use the input
+-- fresh world, `load` and `view --start` over the book of a trace. `view` does not use the input
 abbrev pub FollowsOptions : {F : Type 0} → (F → Option (List ℕ)) → Options → Devices → Result ℕ ProgramFault → Type 0
 FollowsOptions remaining (Run file actors ring trace) d result =
     PlaysFileOrInput remaining file.now (fresh_state (ring_length ring) actors) trace d result
-FollowsOptions remaining (View files actors ring) d result =
+FollowsOptions remaining (View files actors ring start history trace) d result =
     IsUnused d.input
-    × ViewsFiles remaining (length files.items) (fresh_state (ring_length ring) actors) d.output result
+    × ViewsFilesAfter remaining start (length files.items) (fresh_state (ring_length ring) actors) (record { history = history; trace = trace }) d.output result
 FollowsOptions remaining (Load file trace) d result = ResumesFile remaining trace d result
 
 -- the outcome of these words: they give options, and the outcome is the result of doing what these

@@ -28,13 +28,13 @@ flag_text false = codes "false"
 -- gives no number
 abbrev pub AreInRange : Options → Type 0
 AreInRange (Run file actors ring trace) = (1 ≤ actors) × (actors ≤ MOST_ACTORS)
-AreInRange (View files actors ring) = ((1 ≤ actors) × (actors ≤ MOST_ACTORS)) × ((1 ≤ length files.items) × (length files.items ≤ MOST_VIEWERS))
+AreInRange (View files actors ring start history trace) = ((1 ≤ actors) × (actors ≤ MOST_ACTORS)) × ((1 ≤ length files.items) × (length files.items ≤ MOST_VIEWERS))
 AreInRange (Load file trace) = ⊤
 
 -- the number of files that these options name
 abbrev pub file_count : Options → ℕ
 file_count (Run file actors ring trace) = 1
-file_count (View files actors ring) = length files.items
+file_count (View files actors ring start history trace) = length files.items
 file_count (Load file trace) = 1
 
 -- the fault of a command line for an error of clap with this kind: `Shown` for help or the version,

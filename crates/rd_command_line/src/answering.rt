@@ -6,18 +6,20 @@ ghost use Rattle.std.specs.Process.{exit_status};
 ghost use Rattle.rd_desk.specs.declared.desks.TheConstants.{MOST_VIEWERS};
 ghost use Rattle.rd_script.specs.Streams.{devices, sink_stream};
 ghost use Rattle.rd_script.specs.Ring.{ring_length};
-ghost use Rattle.rd_script.specs.AnyBook.{fresh_state};
+ghost use Rattle.rd_script.specs.AnyBook.{any_state, fresh_state};
 ghost use Rattle.rd_program.specs.declared.faults.ProgramFault.TheVariants.{Read};
 ghost use Rattle.rd_program.specs.Program.{IsReadOrNoMemory};
 ghost use Rattle.rd_command_line.specs.Options.{AreInRange};
 ghost use Rattle.rd_command_line.specs.Outcomes.{is_shown};
-ghost use Rattle.rd_command_line.specs.Answering.{AreWholeTexts, FollowsWords, FollowsOptions, FollowsWordsOrFault, ResumesFile, RunsCommandLine, PlaysFile, PlaysFileOrInput, ViewsFiles};
+ghost use Rattle.rd_command_line.specs.Answering.{AreWholeTexts, FollowsWords, FollowsOptions, FollowsWordsOrFault, LoadsFile, ResumesFile, RunsCommandLine, PlaysFile, PlaysFileOrInput, ViewsFiles, ViewsFilesAfter, ViewsFilesFrom};
 
 use super::command_line::options;
 use super::outcomes::{Outcome, show_outcome};
 use super::requests::{Options, OptionsFault};
-use rd_program::{ProgramFault, Setup, play, read_whole_text, resume, view};
-use rd_script::{ReadSource, Sink, Source};
+use rd_program::{
+    ProgramFault, Setup, ViewExtras, load_book, play, read_whole_text, resume, view, view_book,
+};
+use rd_script::{AnyBook, ReadSource, Sink, Source};
 use std::alloc::Global;
 use std::convert::AsStr;
 use std::fs::{self, Files};
@@ -96,7 +98,8 @@ pub fn follow_words<R: Files + Threads + Wait + Sync, S: AsStr, I: Source, O: Si
 }
 
 /// Does what the options ask for. Returns the number of the script's lines, or for `view` the
-/// number of recorded calls. Fails as `play_file_or_input`, `view_files` or `resume_file` does.
+/// number of recorded calls. Fails as `play_file_or_input`, `view_files_after` or `resume_file`
+/// does.
 /// There must be 1 to 16 actors and, for `view`, 1 to 64 files. Neither stream may have failed
 /// before.
 fn follow_options<R: Files + Threads + Wait + Sync, I: Source, O: Sink>(
@@ -131,7 +134,18 @@ fn follow_options<R: Files + Threads + Wait + Sync, I: Source, O: Sink>(
             files,
             actors,
             ring,
-        } => view_files(rt, alloc, files.as_slice(), output, Setup { actors, ring }),
+            start,
+            history,
+            trace,
+        } => view_files_after(
+            rt,
+            alloc,
+            start,
+            files.as_slice(),
+            output,
+            Setup { actors, ring },
+            ViewExtras { history, trace },
+        ),
         Options::Load { file, trace } => resume_file(rt, alloc, file, input, output, trace),
     }
 }
@@ -181,27 +195,108 @@ fn play_file<R: Files, O: Sink>(
     play(alloc, &mut ReadSource::new(file), output, setup, trace)
 }
 
+/// Runs the scripts in the files of these names, each by its own viewer: over the book of the trace
+/// in the file `start` if there is one, as `view_files_from` does, else over a fresh world, as
+/// `view_files` does, with the same faults. There must be 1 to 64 names, and the output must not
+/// have failed before.
+fn view_files_after<R: Files + Threads + Wait + Sync, O: Sink>(
+    rt: &R,
+    alloc: Global,
+    start: Option<&str>,
+    names: &[&str],
+    output: &mut O,
+    setup: Setup,
+    extras: ViewExtras,
+) -> Result<u64, ProgramFault>
+    requires output_works { O.has_failed output.old ≡ false }
+    requires some_files { 1 ≤ length names.now }
+    requires few_files { length names.now ≤ MOST_VIEWERS }
+    ensures { ViewsFilesAfter R.File.remaining start.entry (length names.now)
+        (fresh_state (ring_length setup.ring) setup.actors) extras
+        (sink_stream O.Sink output.old output.new) result }
+{
+    match start {
+        None => view_files(rt, alloc, names, output, setup, extras),
+        Some(name) => view_files_from(rt, alloc, name, names, output, extras),
+    }
+}
+
 /// Runs the scripts in the files of these names over one fresh world, each by its own viewer.
-/// Writes to the output what `view` writes, and returns the number of recorded calls. All files are
-/// read before the first command is asked. Fails as `read_files` does, and the output is then not
-/// used, or as `view` does. There must be 1 to 64 names, and the output must not have failed
-/// before.
+/// Writes to the output what `view` writes with these extras, and returns the number of recorded
+/// calls. All files are read before the first command is asked. Fails as `read_files` does, and the
+/// output is then not used, or as `view` does. There must be 1 to 64 names, and the output must not
+/// have failed before.
 fn view_files<R: Files + Threads + Wait + Sync, O: Sink>(
     rt: &R,
     alloc: Global,
     names: &[&str],
     output: &mut O,
     setup: Setup,
+    extras: ViewExtras,
 ) -> Result<u64, ProgramFault>
     requires output_works { O.has_failed output.old ≡ false }
     requires some_files { 1 ≤ length names.now }
     requires few_files { length names.now ≤ MOST_VIEWERS }
     ensures { ViewsFiles R.File.remaining (length names.now)
-        (fresh_state (ring_length setup.ring) setup.actors)
+        (fresh_state (ring_length setup.ring) setup.actors) extras
         (sink_stream O.Sink output.old output.new) result }
 {
     let scripts = read_files(rt, alloc, names)?;
-    view(rt, alloc, scripts.as_slice(), output, setup)
+    view(rt, alloc, scripts.as_slice(), output, setup, extras)
+}
+
+/// Loads the trace in the file `start`, and runs the scripts in the files of these names over its
+/// book, each by its own viewer. Writes and returns what `view_files` does. The trace is loaded
+/// before any file of a viewer is opened. Fails as `load_file` or `read_files` does, and the output
+/// is then not used, or as `view_book` does. There must be 1 to 64 names, and the output must not
+/// have failed before.
+fn view_files_from<R: Files + Threads + Wait + Sync, O: Sink>(
+    rt: &R,
+    alloc: Global,
+    start: &str,
+    names: &[&str],
+    output: &mut O,
+    extras: ViewExtras,
+) -> Result<u64, ProgramFault>
+    requires output_works { O.has_failed output.old ≡ false }
+    requires some_files { 1 ≤ length names.now }
+    requires few_files { length names.now ≤ MOST_VIEWERS }
+    ensures { ViewsFilesFrom R.File.remaining (length names.now) extras
+        (sink_stream O.Sink output.old output.new) result }
+{
+    let book = load_file(rt, alloc, start)?;
+    view_files_over(rt, alloc, names, output, book, extras)
+}
+
+/// Runs the scripts in the files of these names over a book, each by its own viewer. Writes and
+/// returns what `view_files` does. Fails as `read_files` does, and the output is then not used, or
+/// as `view_book` does. There must be 1 to 64 names, and the output must not have failed before.
+fn view_files_over<R: Files + Threads + Wait + Sync, O: Sink>(
+    rt: &R,
+    alloc: Global,
+    names: &[&str],
+    output: &mut O,
+    book: AnyBook,
+    extras: ViewExtras,
+) -> Result<u64, ProgramFault>
+    requires output_works { O.has_failed output.old ≡ false }
+    requires some_files { 1 ≤ length names.now }
+    requires few_files { length names.now ≤ MOST_VIEWERS }
+    ensures { ViewsFiles R.File.remaining (length names.now) (any_state book) extras
+        (sink_stream O.Sink output.old output.new) result }
+{
+    let scripts = read_files(rt, alloc, names)?;
+    view_book(rt, alloc, scripts.as_slice(), output, book, extras)
+}
+
+/// Loads the trace in the file of this name, and returns its book. Fails with `Read` if the file
+/// can't be opened, as `read_whole_text` does, or as `load_book` does.
+fn load_file<R: Files>(rt: &R, alloc: Global, name: &str) -> Result<AnyBook, ProgramFault>
+    ensures { LoadsFile R.File.remaining result }
+{
+    let mut file = open_file(rt, name)?;
+    let text = read_whole_text(alloc, &mut file)?;
+    load_book(alloc, text.as_slice())
 }
 
 /// Opens and reads the files of these names, and returns their whole texts, in order. Fails with

@@ -5,14 +5,14 @@
 //! command and the words: the rows of matches, or the kinds of fault. No argument is global: each
 //! belongs to its own subcommand only.
 
-ghost use Rattle.std.specs.Prelude.{◌≡◌, ◌≢◌, ℕ, IfOk, IfErr, IfSome, IsNone, Bool, map, false};
-ghost use Rattle.clap.specs.Walk.{Text};
+ghost use Rattle.std.specs.Prelude.{◌≡◌, ◌≢◌, ℕ, IfOk, IfErr, IfSome, IsNone, Bool, Option, codes, is_some, map, option_map, false, true};
+ghost use Rattle.clap.specs.Walk.{Text, first_of};
 ghost use Rattle.clap.specs.Words.{app_of, found_of, kind_of, rows_of, rule_of, subcommand_rows_of};
 ghost use Rattle.clap.specs.declared.builder.command.Command.TheViews.{out-Command};
 ghost use Rattle.clap.specs.declared.error.kind.ErrorKind.TheVariants.{InvalidValue};
 ghost use Rattle.rd_command_line.specs.Options.{IsRefusedOrNoMemory, AreInRange, flag_text, ring_text};
-ghost use Rattle.rd_command_line.specs.CommandLine.{BothAreRingSizes, ValueNamesPair, AreRingSizes, GivesSubcommand, GivesWorld, GivesFileAndTrace, GivesRun, GivesView, GivesLoad, GivesOptions, GivesFault};
-ghost use Rattle.rd_command_line.specs.CommandLine.{file_rule, files_rule, actors_rule, ring_rule, trace_rule, run_app_without_trace, run_app, view_app, load_app, program_app};
+ghost use Rattle.rd_command_line.specs.CommandLine.{BothAreRingSizes, ValueNamesPair, AreRingSizes, GivesSubcommand, text_or_4, SpellsActors, GivesWorld, GivesStart, GivesFlag, GivesFileAndTrace, GivesRun, GivesView, GivesLoad, GivesOptions, GivesFault};
+ghost use Rattle.rd_command_line.specs.CommandLine.{file_rule, files_rule, actors_rule, ring_rule, by_default_4, start_rule, flag_rule, run_app_without_trace, run_app, view_app_over_fresh_world, view_app, load_app, program_app};
 
 use super::requests::{Options, OptionsFault};
 use clap::error::ErrorKind;
@@ -30,13 +30,16 @@ const VERSION: &str = "0.1.0";
 /// The numbers of cells that a ring may have, as the command line spells them.
 static RINGS: [&str; 3] = ["2", "4", "8"];
 
+/// The message for `view` with a trace to start with and an option of the fresh world.
+const START_CONFLICT: &str = "--start can't be used with --actors or --ring";
+
 /// Returns the options that the words of a command line give. The first word is the program's name.
 ///
 /// # Errors
 ///
 /// `Shown` if the words ask for help or for the version; `Refused` if `clap` finds a mistake in
-/// them, or values that give no options; `TooManyFiles` if `view` names more than 64 files;
-/// `NoMemory` if memory was refused.
+/// them, or values that give no options, as `--start` with `--actors` or `--ring`; `TooManyFiles`
+/// if `view` names more than 64 files; `NoMemory` if memory was refused.
 pub fn options<'a, S: AsStr>(alloc: Global, words: &'a [S]) -> Result<Options<'a>, OptionsFault>
     ensures ok { IfOk result (GivesOptions (map S.text words.entry.now)) }
     ensures err { IfErr result (GivesFault (map S.text words.entry.now)) }
@@ -45,7 +48,7 @@ pub fn options<'a, S: AsStr>(alloc: Global, words: &'a [S]) -> Result<Options<'a
     let mut command = program_command(alloc)?;
     let matches = command.try_get_matches_from_mut(words)?;
     let Some(options) = options_from(alloc, &matches)? else {
-        let error = command.error(ErrorKind::MissingRequiredArgument, "an option is missing")?;
+        let error = command.error(ErrorKind::ArgumentConflict, START_CONFLICT)?;
         return Err(OptionsFault::Refused(error));
     };
     if options.has_too_many_files() {
@@ -133,8 +136,8 @@ fn run_options<'a>(run: &ArgMatches<'a>) -> Option<Options<'a>>
 }
 
 /// Returns the options from the matches of `view`, or none if a value is missing or not one that
-/// the program takes, or if there is no file. There may be more than 64 files. Fails only if memory
-/// is refused.
+/// the program takes, if there is no file, or if `--start` comes with `--actors` or `--ring`. There
+/// may be more than 64 files. Fails only if memory is refused.
 fn view_options<'a>(alloc: Global, view: &ArgMatches<'a>) -> Result<Option<Options<'a>>, AllocError>
     ensures some { IfOk result (λ asked. IfSome asked (GivesView (rows_of (found_of view.now)))) }
     ensures none { IfOk result (λ asked. IsNone asked → (o : Options)
@@ -143,35 +146,84 @@ fn view_options<'a>(alloc: Global, view: &ArgMatches<'a>) -> Result<Option<Optio
     let Some(files) = view.get_strs("files") else {
         return Ok(None);
     };
-    let Some((actors, ring)) = actors_and_ring(view) else {
-        return Ok(None);
-    };
     if files.is_empty() {
         return Ok(None);
     }
+    let Some((actors, ring)) = actors_and_ring(view) else {
+        return Ok(None);
+    };
+    let Some((start, history, trace)) = start_and_flags(view) else {
+        return Ok(None);
+    };
     let files = Vec::from_slice(alloc, files)?;
     Ok(Some(Options::View {
         files,
         actors,
         ring,
+        start,
+        history,
+        trace,
     }))
 }
 
-/// Returns the number of actors, 1 to 16, and the ring from the matches of `run` or `view`, or none
-/// if a value is missing or not one that the program takes.
+/// Returns the name of the trace to start with, if there is one, and whether the history and the
+/// trace are asked for, from the matches of `view`. Returns none if `--start` comes with `--actors`
+/// or `--ring`, or if a flag's value is missing or not one that the program takes.
+fn start_and_flags<'a>(view: &ArgMatches<'a>) -> Option<(Option<&'a str>, bool, bool)>
+    ensures some { IfSome result (λ asked.
+        GivesStart (rows_of (found_of view.now)) (option_map (λ name. name.now) asked.0)
+        × GivesFlag (rows_of (found_of view.now)) (codes "history") asked.1
+        × GivesFlag (rows_of (found_of view.now)) (codes "trace") asked.2) }
+    ensures none { IsNone result → (start : Option Text) (history trace : Bool)
+        → GivesStart (rows_of (found_of view.now)) start
+        → GivesFlag (rows_of (found_of view.now)) (codes "history") history
+        → GivesFlag (rows_of (found_of view.now)) (codes "trace") trace → ⊥ }
+{
+    if has_conflict(view) {
+        return None;
+    }
+    let start = view.get_str("start");
+    let history = flag(view, "history")?;
+    let trace = flag(view, "trace")?;
+    Some((start, history, trace))
+}
+
+/// Returns whether the matches of `view` have a value for `--start` and one for `--actors` or
+/// `--ring`.
+fn has_conflict(view: &ArgMatches<'_>) -> bool
+    ensures conflict { result ≡ true → (start : Option Text)
+        → GivesStart (rows_of (found_of view.now)) start → ⊥ }
+    ensures none { result ≡ false → GivesStart (rows_of (found_of view.now))
+        (first_of (codes "start") (rows_of (found_of view.now))) }
+{
+    is_given(view, "start") && (is_given(view, "actors") || is_given(view, "ring"))
+}
+
+/// Returns whether the matches have a value for the argument of this name.
+fn is_given(matches: &ArgMatches<'_>, name: &str) -> bool
+    ensures { result ≡ is_some (first_of name.now (rows_of (found_of matches.now))) }
+{
+    matches.get_str(name).is_some()
+}
+
+/// Returns the number of actors, 1 to 16, and the ring from the matches of `run` or `view`, each 4
+/// if its value is missing, or none if a value is not one that the program takes.
 fn actors_and_ring<'a>(matches: &ArgMatches<'a>) -> Option<(u8, Ring)>
     ensures some { IfSome result (λ world.
         GivesWorld (rows_of (found_of matches.now)) world.0 world.1) }
     ensures none { IsNone result → (actors : ℕ) (ring : Ring)
         → GivesWorld (rows_of (found_of matches.now)) actors ring → ⊥ }
 {
-    let actors = matches.get_one::<u8>("actors")?;
-    let ring = parse_ring(matches.get_str("ring")?)?;
-    if 1 <= actors && usize::from(actors) <= MOST_ACTORS {
-        Some((actors, ring))
-    } else {
-        None
-    }
+    let actors = parse_actors(text_or_4(matches, "actors"))?;
+    let ring = parse_ring(text_or_4(matches, "ring"))?;
+    Some((actors, ring))
+}
+
+/// Returns the value for the argument of this name, or `4` if it is missing.
+fn text_or_4<'a>(matches: &ArgMatches<'a>, name: &str) -> &'a str
+    ensures { result.now ≡ text_or_4 (rows_of (found_of matches.now)) name.now }
+{
+    matches.get_str(name).unwrap_or("4")
 }
 
 /// Returns the options from the matches of `load`, or none if a value is missing or not one that
@@ -193,8 +245,32 @@ fn file_and_trace<'a>(matches: &ArgMatches<'a>) -> Option<(&'a str, bool)>
         → GivesFileAndTrace (rows_of (found_of matches.now)) file trace → ⊥ }
 {
     let file = matches.get_str("file")?;
-    let trace = parse_flag(matches.get_str("trace")?)?;
+    let trace = flag(matches, "trace")?;
     Some((file, trace))
+}
+
+/// Returns whether the flag of this name is set, or none if its value is missing or not one that
+/// `clap` keeps for a flag.
+fn flag(matches: &ArgMatches<'_>, name: &str) -> Option<bool>
+    ensures some { IfSome result (GivesFlag (rows_of (found_of matches.now)) name.now) }
+    ensures none { IsNone result → (choice : Bool)
+        → GivesFlag (rows_of (found_of matches.now)) name.now choice → ⊥ }
+{
+    parse_flag(matches.get_str(name)?)
+}
+
+/// Returns the number of actors that a text of the command line spells, 1 to 16, or none for any
+/// other text.
+fn parse_actors(text: &str) -> Option<u8>
+    ensures some { IfSome result (SpellsActors text.now) }
+    ensures none { IsNone result → (actors : ℕ) → SpellsActors text.now actors → ⊥ }
+{
+    let actors = text.parse::<u8>().ok()?;
+    if 1 <= actors && usize::from(actors) <= MOST_ACTORS {
+        Some(actors)
+    } else {
+        None
+    }
 }
 
 /// Returns the ring that a text of the command line spells, `2`, `4` or `8`, or none for any other
@@ -258,8 +334,8 @@ fn run_command_without_trace<'a>(alloc: Global) -> Result<Command<'a>, AllocErro
         .about("Does the lines of a script and writes a reply to each")
         .after_help(FORMS)
         .arg(file_arg(alloc, "FILE").help("The script; - is standard input"))?
-        .arg(actors_arg(alloc))?
-        .arg(ring_arg(alloc))
+        .arg(run_actors_arg(alloc))?
+        .arg(run_ring_arg(alloc))
 }
 
 /// Returns the subcommand `view` for `clap`, with all its arguments. Fails only if memory is
@@ -269,11 +345,24 @@ fn view_command<'a>(alloc: Global) -> Result<Command<'a>, AllocError>
         ≡ view_app names)) }
     ensures local { IfOk result (λ c. (out-Command c).has_globals ≡ false) }
 {
+    view_command_over_fresh_world(alloc)?
+        .arg(start_arg(alloc))?
+        .arg(history_arg(alloc))?
+        .arg(trace_arg(alloc))
+}
+
+/// Returns the subcommand `view` for `clap`, with its files and the options of the fresh world.
+/// Fails only if memory is refused.
+fn view_command_over_fresh_world<'a>(alloc: Global) -> Result<Command<'a>, AllocError>
+    ensures app { IfOk result (λ c. (names : _) × AreRingSizes names × (app_of c
+        ≡ view_app_over_fresh_world names)) }
+    ensures local { IfOk result (λ c. (out-Command c).has_globals ≡ false) }
+{
     Command::new(alloc, "view")
         .about("Does the lines of several scripts at once, each by a viewer of one world")
         .arg(files_arg(alloc))?
-        .arg(actors_arg(alloc))?
-        .arg(ring_arg(alloc))
+        .arg(actors_arg(alloc, "How many actors the world has, 1 to 16 [default: 4]"))?
+        .arg(ring_arg(alloc, "How many cells each ring has [default: 4]"))
 }
 
 /// Returns the subcommand `load` for `clap`, with all its arguments. Fails only if memory is
@@ -307,30 +396,77 @@ fn files_arg<'a>(alloc: Global) -> Arg<'a>
         .help("The scripts of the viewers, 1 to 64")
 }
 
-/// Returns the option `--trace` for `clap`, a flag without a value.
-fn trace_arg<'a>(alloc: Global) -> Arg<'a>
-    ensures { (rule_of result ≡ trace_rule) × (result.global ≡ false) }
+/// Returns the option `--start` for `clap`: the name of a trace's file.
+fn start_arg<'a>(alloc: Global) -> Arg<'a>
+    ensures { (rule_of result ≡ start_rule) × (result.global ≡ false) }
 {
-    Arg::new(alloc, "trace")
-        .long("trace")
-        .action(ArgAction::SetTrue)
-        .help("Writes the trace of the run behind its report")
+    Arg::new(alloc, "start")
+        .long("start")
+        .value_name("TRACE")
+        .help("The trace whose session the viewers go on with, in place of a fresh world")
 }
 
-/// Returns the option `--actors` for `clap`: a number from 1 to 16, by default 4.
-fn actors_arg<'a>(alloc: Global) -> Arg<'a>
+/// Returns the flag `--history` for `clap`.
+fn history_arg<'a>(alloc: Global) -> Arg<'a>
+    ensures { (rule_of result ≡ flag_rule (codes "history")) × (result.global ≡ false) }
+{
+    flag_arg(
+        alloc,
+        "history",
+        "Writes the recorded calls behind their number",
+    )
+}
+
+/// Returns the flag `--trace` for `clap`.
+fn trace_arg<'a>(alloc: Global) -> Arg<'a>
+    ensures { (rule_of result ≡ flag_rule (codes "trace")) × (result.global ≡ false) }
+{
+    flag_arg(
+        alloc,
+        "trace",
+        "Writes the trace of the run behind its report",
+    )
+}
+
+/// Returns the flag of this name for `clap`, which takes no value.
+fn flag_arg<'a>(alloc: Global, name: &'a str, help: &'a str) -> Arg<'a>
+    ensures { (rule_of result ≡ flag_rule name.now) × (result.global ≡ false) }
+{
+    Arg::new(alloc, name)
+        .long(name)
+        .action(ArgAction::SetTrue)
+        .help(help)
+}
+
+/// Returns the option `--actors` of `run` for `clap`: a number from 1 to 16, by default 4.
+fn run_actors_arg<'a>(alloc: Global) -> Arg<'a>
+    ensures { (rule_of result ≡ by_default_4 actors_rule) × (result.global ≡ false) }
+{
+    actors_arg(alloc, "How many actors the world has, 1 to 16").default_value("4")
+}
+
+/// Returns the option `--actors` for `clap`, a number from 1 to 16, with this help.
+fn actors_arg<'a>(alloc: Global, help: &'a str) -> Arg<'a>
     ensures { (rule_of result ≡ actors_rule) × (result.global ≡ false) }
 {
     Arg::new(alloc, "actors")
         .long("actors")
         .value_name("COUNT")
         .value_parser(value_parser!(u8).range(1..=MOST_ACTORS as i64))
-        .default_value("4")
-        .help("How many actors the world has, 1 to 16")
+        .help(help)
 }
 
-/// Returns the option `--ring` for `clap`: 2, 4 or 8, by default 4.
-fn ring_arg<'a>(alloc: Global) -> Arg<'a>
+/// Returns the option `--ring` of `run` for `clap`: 2, 4 or 8, by default 4.
+fn run_ring_arg<'a>(alloc: Global) -> Arg<'a>
+    ensures rule { (names : _) × AreRingSizes names × (rule_of result
+        ≡ by_default_4 (ring_rule names)) }
+    ensures local { result.global ≡ false }
+{
+    ring_arg(alloc, "How many cells each ring has").default_value("4")
+}
+
+/// Returns the option `--ring` for `clap`, which is 2, 4 or 8, with this help.
+fn ring_arg<'a>(alloc: Global, help: &'a str) -> Arg<'a>
     ensures rule { (names : _) × AreRingSizes names × (rule_of result ≡ ring_rule names) }
     ensures local { result.global ≡ false }
 {
@@ -338,6 +474,5 @@ fn ring_arg<'a>(alloc: Global) -> Arg<'a>
         .long("ring")
         .value_name("CELLS")
         .value_parser(RINGS.as_slice())
-        .default_value("4")
-        .help("How many cells each ring has")
+        .help(help)
 }

@@ -27,12 +27,19 @@ pub enum Options<'a> {
     },
     /// `view FILE..`: runs several scripts over one world, each by its own viewer.
     View {
-        /// The scripts' files, 1 to 64, in the order of their viewers.
+        /// The viewers' files, 1 to 64, in the order of their viewers.
         files: Vec<&'a str>,
-        /// The number of actors of the world, 1 to 16.
+        /// The number of actors of the fresh world, 1 to 16; 4 if a trace is the start.
         actors: u8,
-        /// The size of its rings: 2, 4 or 8 cells.
+        /// The size of its rings: 2, 4 or 8 cells; 4 if a trace is the start.
         ring: Ring,
+        /// `--start`: the trace's file whose session the viewers go on with, in place of a fresh
+        /// world.
+        start: Option<&'a str>,
+        /// `--history`: whether the recorded calls follow their number.
+        history: bool,
+        /// `--trace`: whether the trace of the session comes last.
+        trace: bool,
     },
     /// `load TRACE`: does the lines of standard input over the book of a trace.
     Load {

@@ -55,6 +55,12 @@ PlaysOver before traced d (Err _) = ⊥
 abbrev pub PlaysScript : BookState → Bool → Devices → Result ℕ ProgramFault → Type 0
 PlaysScript before traced d result = ((result ≡ Err NoMemory) × AreUnused d) ⊎ PlaysOver before traced d result
 
+-- the result of loading a text as a trace: its book, or `Trace` with the reason why there is none
+abbrev pub LoadsBook : List ℕ → Result AnyBook ProgramFault → Type 0
+LoadsBook text (Ok book) = LoadsTrace text (Ok book)
+LoadsBook text (Err (Trace fault)) = LoadsTrace text (Err fault)
+LoadsBook text (Err _) = ⊥
+
 -- what `load` did with the text of a file: it was not loaded, and neither device was used; or it
 -- was loaded as a book, and a script was run over this book
 abbrev pub ResumesTrace : List ℕ → Bool → Devices → Result ℕ ProgramFault → Type 0

@@ -3,9 +3,9 @@
 //!
 //! `play` runs a script over a fresh world, and `resume` over the book of a trace; both write the
 //! trace of the session after the report if it is asked for. `view` runs several scripts over one
-//! fresh world, each by its own viewer. `read_whole_text` reads a trace or a script whole. From the
-//! `Result` of these, `show_program_fault` makes the exit status, and writes the line of a fault to
-//! standard error.
+//! fresh world, and `view_book` over one book, each by its own viewer. `read_whole_text` reads a
+//! trace or a script whole, and `load_book` loads a trace. From the `Result` of these,
+//! `show_program_fault` makes the exit status, and writes the line of a fault to standard error.
 #![tactic(auto)]
 
 mod endings;
@@ -16,6 +16,6 @@ mod viewers;
 
 pub use endings::show_program_fault;
 pub use faults::ProgramFault;
-pub use program::{play, read_whole_text, resume};
-pub use setups::Setup;
-pub use viewers::view;
+pub use program::{load_book, play, read_whole_text, resume};
+pub use setups::{Setup, ViewExtras};
+pub use viewers::{view, view_book};

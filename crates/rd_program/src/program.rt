@@ -6,7 +6,7 @@ ghost use Rattle.std.specs.Prelude.{◌≡◌, ℕ, false, IfOk, IfErr, IfSome};
 ghost use Rattle.rd_script.specs.Streams.{devices, sink_stream};
 ghost use Rattle.rd_script.specs.Ring.{ring_length};
 ghost use Rattle.rd_script.specs.AnyBook.{any_state, fresh_state};
-ghost use Rattle.rd_program.specs.Program.{IsReadOrNoMemory, PlaysOver, PlaysScript, ResumesTrace, WritesTraceIfAsked};
+ghost use Rattle.rd_program.specs.Program.{IsReadOrNoMemory, LoadsBook, PlaysOver, PlaysScript, ResumesTrace, WritesTraceIfAsked};
 
 use super::faults::ProgramFault;
 use super::setups::Setup;
@@ -103,6 +103,20 @@ pub fn resume<S: Source, K: Sink>(
 {
     let mut book = load_trace(alloc, text)?;
     play_over(alloc, reader, writer, &mut book, trace)
+}
+
+/// Loads a text as a trace, and returns its book.
+///
+/// # Errors
+///
+/// `Trace` with the fault of `load_trace`, if the text was not loaded.
+pub fn load_book(alloc: Global, text: &[u8]) -> Result<AnyBook, ProgramFault>
+    ensures { LoadsBook text.now result }
+{
+    match load_trace(alloc, text) {
+        Ok(book) => Ok(book),
+        Err(fault) => Err(ProgramFault::Trace(fault)),
+    }
 }
 
 /// Reads a reader to its end, and returns all bytes that it still had.

@@ -1,4 +1,4 @@
-//! The fresh world that a run begins in.
+//! What a run begins in, and what a view writes behind its report.
 
 ghost use Rattle.std.specs.Prelude.{◌≤◌};
 ghost use Rattle.rd_cell.specs.declared.limits.TheConstants.{MOST_ACTORS};
@@ -14,4 +14,13 @@ pub struct Setup {
     pub ring: Ring,
     ghost some: { 1 ≤ actors },
     ghost few: { actors ≤ MOST_ACTORS },
+}
+
+/// What a view writes behind the number of its calls.
+#[derive(Clone, Copy, Debug, PartialEq, Eq)]
+pub struct ViewExtras {
+    /// The recorded calls, a line each.
+    pub history: bool,
+    /// The trace of the session, as the last line.
+    pub trace: bool,
 }

@@ -10,8 +10,11 @@ use std::process::Abort;
 enum Wanted {
     /// To run a script: the file, the actors, the ring, and whether the trace follows.
     Runs(&'static str, u8, Ring, bool),
-    /// To view scripts: the files, the actors, and the ring.
+    /// To view scripts over a fresh world: the files, the actors, and the ring.
     Views(&'static [&'static str], u8, Ring),
+    /// To view scripts with what only `view` takes: the files, the trace to start with if there is
+    /// one, and whether the history and the trace follow.
+    Asks(&'static [&'static str], Option<&'static str>, bool, bool),
     /// To load a trace: the file, and whether the trace of the session follows.
     Loads(&'static str, bool),
     /// A text that begins and goes on so.
@@ -20,6 +23,25 @@ enum Wanted {
     Refused,
     /// More files than there may be viewers.
     TooMany,
+}
+
+/// The options of a view.
+fn view<'a>(
+    rt: &impl Abort,
+    alloc: Global,
+    files: &'static [&'static str],
+    world: (u8, Ring),
+    start: Option<&'static str>,
+    asked: (bool, bool),
+) -> Options<'a> {
+    Options::View {
+        files: Vec::from_slice(alloc, files).expect(rt, "out of memory"),
+        actors: world.0,
+        ring: world.1,
+        start,
+        history: asked.0,
+        trace: asked.1,
+    }
 }
 
 /// Whether the options are the wanted ones.
@@ -31,11 +53,13 @@ fn are_wanted(rt: &impl Abort, alloc: Global, read: &Options<'_>, wanted: &Wante
             ring: *ring,
             trace: *trace,
         },
-        Wanted::Views(files, actors, ring) => Options::View {
-            files: Vec::from_slice(alloc, *files).expect(rt, "out of memory"),
-            actors: *actors,
-            ring: *ring,
-        },
+        Wanted::Views(files, actors, ring) => {
+            view(rt, alloc, *files, (*actors, *ring), None, (false, false))
+        }
+        Wanted::Asks(files, start, history, trace) => {
+            let world = (4, Ring::Four);
+            view(rt, alloc, *files, world, *start, (*history, *trace))
+        }
         Wanted::Loads(file, trace) => Options::Load {
             file: *file,
             trace: *trace,
@@ -122,6 +146,32 @@ const ROWS: &[(&[&str], Wanted)] = &[
     (
         &["lcrqdb", "run", "--trace", "a", "--ring=2"],
         Wanted::Runs("a", 4, Ring::Two, true),
+    ),
+    // `view` also takes a trace to start with, and two flags. With a trace, it takes no option of
+    // the fresh world.
+    (
+        &["lcrqdb", "view", "a", "--history"],
+        Wanted::Asks(&["a"], None, true, false),
+    ),
+    (
+        &["lcrqdb", "view", "--trace", "a", "b"],
+        Wanted::Asks(&["a", "b"], None, false, true),
+    ),
+    (
+        &[
+            "lcrqdb",
+            "view",
+            "a",
+            "--start",
+            "t",
+            "--history",
+            "--trace",
+        ],
+        Wanted::Asks(&["a"], Some("t"), true, true),
+    ),
+    (
+        &["lcrqdb", "view", "--start=t", "a"],
+        Wanted::Asks(&["a"], Some("t"), false, false),
     ),
     // `load` takes a file and one option.
     (
@@ -251,7 +301,12 @@ const MISTAKES: &[&[&str]] = &[
     &["lcrqdb", "view", "a", "--ring", "3"],
     &["lcrqdb", "view", "a", "--actors", "0"],
     &["lcrqdb", "view", "a", "--actors", "17"],
-    &["lcrqdb", "view", "a", "--trace"],
+    &["lcrqdb", "view", "a", "--start"],
+    &["lcrqdb", "view", "a", "--history=yes"],
+    &["lcrqdb", "view", "a", "--start", "t", "--ring", "4"],
+    &["lcrqdb", "view", "a", "--actors", "4", "--start", "t"],
+    &["lcrqdb", "run", "a", "--history"],
+    &["lcrqdb", "load", "a", "--start", "t"],
     &["lcrqdb", "view", "a", "--ring", "2", "--ring", "2"],
     &["lcrqdb", "--ring", "2", "view", "a"],
     &["lcrqdb", "load"],

@@ -1,6 +1,6 @@
 //! Views: several scripts over one fresh world, of the options' actors and ring.
 
-use rd_program::{ProgramFault, Setup, view};
+use rd_program::{ProgramFault, Setup, ViewExtras, view};
 use rd_script::{Ring, WriteSink};
 use rd_view::ViewFault;
 use std::alloc::Global;
@@ -14,9 +14,16 @@ struct View {
     actors: u8,
     ring: Ring,
     scripts: &'static [&'static str],
+    extras: ViewExtras,
     text: &'static str,
     calls: u64,
 }
+
+/// A view with nothing behind the number of its calls.
+const PLAIN: ViewExtras = ViewExtras {
+    history: false,
+    trace: false,
+};
 
 /// Scripts that ask for the third actor and for two cells.
 const ASKING: &[&str] = &["deq 3\n", "show cell 0.0 3\nshow cell 0.0 7\n"];
@@ -28,6 +35,7 @@ const VIEWS: &[View] = &[
         actors: 4,
         ring: Ring::Four,
         scripts: &["len\nshow qhead\n", "show tail 0.0"],
+        extras: PLAIN,
         text: "viewer 1\nat 0 0\nis 0.0\nviewer 2\nis open 0\nhistory 3\n",
         calls: 3,
     },
@@ -36,6 +44,7 @@ const VIEWS: &[View] = &[
         actors: 2,
         ring: Ring::Two,
         scripts: ASKING,
+        extras: PLAIN,
         text: "viewer 1\nrefused 1 NoActor\nviewer 2\nrefused 19 NoSuchPlace\nrefused 19 NoSuchPlace\nhistory 3\n",
         calls: 3,
     },
@@ -43,6 +52,7 @@ const VIEWS: &[View] = &[
         actors: 3,
         ring: Ring::Four,
         scripts: ASKING,
+        extras: PLAIN,
         text: "viewer 1\nok 1\nviewer 2\nis 1 3 none\nrefused 19 NoSuchPlace\nhistory 3\n",
         calls: 3,
     },
@@ -50,6 +60,7 @@ const VIEWS: &[View] = &[
         actors: 16,
         ring: Ring::Eight,
         scripts: ASKING,
+        extras: PLAIN,
         text: "viewer 1\nok 1\nviewer 2\nis 1 3 none\nis 1 7 none\nhistory 3\n",
         calls: 3,
     },
@@ -58,8 +69,33 @@ const VIEWS: &[View] = &[
         actors: 4,
         ring: Ring::Four,
         scripts: &["hello\nlen\nmark A\nshow qtail\n\n", "", "deq 17\n"],
+        extras: PLAIN,
         text: "viewer 1\nrefused 22 BadLine\nat 0 0\nrefused 17 BadName\nis 0.0\nrefused 22 BadLine\nviewer 2\nviewer 3\nrefused 1 NoActor\nhistory 3\n",
         calls: 3,
+    },
+    // The calls of the history are those that were asked, refused ones too.
+    View {
+        actors: 1,
+        ring: Ring::Four,
+        scripts: &["enq 1 7\ngo 1\nhello\nundo 1\nmark a-1\n", "\n"],
+        extras: ViewExtras {
+            history: true,
+            trace: false,
+        },
+        text: "viewer 1\nok 1\nok 2\nrefused 22 BadLine\nrefused 13 Depended 2\nmarked 2\nviewer 2\nrefused 22 BadLine\nhistory 4\n1 enq 1 7\n1 go 1\n1 undo 1\n1 mark a-1\n",
+        calls: 4,
+    },
+    // The trace is that of the book that the calls left.
+    View {
+        actors: 1,
+        ring: Ring::Two,
+        scripts: &["", "enq 1 7\nundo\n"],
+        extras: ViewExtras {
+            history: true,
+            trace: true,
+        },
+        text: "viewer 1\nviewer 2\nok 1\nat 0 1\nhistory 2\n2 enq 1 7\n2 undo\n{\"events\":[],\"marks\":[],\"ring\":2,\"start\":{\"fresh\":1},\"undone\":[[\"enq\",1,7]],\"version\":2}\n",
+        calls: 2,
     },
 ];
 
@@ -71,7 +107,14 @@ fn view_is<R: Threads + Wait + Abort + Sync>(rt: &R, alloc: Global, shown: &View
     assert!(rt; 1 <= scripts.len() && scripts.len() <= 64);
     let mut written = Vec::new(alloc);
     let sink = &mut WriteSink::new(&mut written);
-    let viewed = view(rt, alloc, scripts.as_slice(), sink, Setup { actors, ring });
+    let viewed = view(
+        rt,
+        alloc,
+        scripts.as_slice(),
+        sink,
+        Setup { actors, ring },
+        shown.extras,
+    );
     let counted = matches!(viewed, Ok(n) if n == shown.calls);
     assert!(rt;
         written.as_slice() == text.as_bytes() && counted,
@@ -96,7 +139,7 @@ fn there_may_be_64_viewers(rt: HostRuntime) {
         actors: 1,
         ring: Ring::Two,
     };
-    let viewed = view(&rt, rt.alloc(), scripts.as_slice(), sink, setup);
+    let viewed = view(&rt, rt.alloc(), scripts.as_slice(), sink, setup, PLAIN);
     let begun = written.starts_with(b"viewer 1\nat 0 0\nviewer 2\n");
     let ended = written
         .as_slice()
@@ -113,6 +156,6 @@ fn a_view_that_cannot_be_written_is_a_failed_write(rt: HostRuntime) {
         actors: 4,
         ring: Ring::Four,
     };
-    let viewed = view(&rt, rt.alloc(), scripts.as_slice(), sink, setup);
+    let viewed = view(&rt, rt.alloc(), scripts.as_slice(), sink, setup, PLAIN);
     assert!(&rt; matches!(viewed, Err(ProgramFault::View(ViewFault::Write))));
 }

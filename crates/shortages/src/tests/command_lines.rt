@@ -47,8 +47,12 @@ fn a_command_line_that_was_refused_memory_is_read_as_ever_the_next_time(rt: Host
         files,
         actors,
         ring,
+        start: None,
+        history: true,
+        trace: false,
     };
-    come_to(&rt, alloc, &["lcrqdb", "view", "a", "b", "--ring=2"], view);
+    let words = ["lcrqdb", "view", "a", "b", "--ring=2", "--history"];
+    come_to(&rt, alloc, &words, view);
 }
 
 /// Words that are a mistake.

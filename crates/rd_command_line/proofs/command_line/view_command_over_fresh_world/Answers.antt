@@ -1,6 +1,6 @@
 use Rattle.std.proofs.Common.{arith}
 use Rattle.std.proofs.lemmas.Grind.{common_steps}
-use Rattle.rd_command_line.proofs.command_line.view_command.Goals as goal
+use Rattle.rd_command_line.proofs.command_line.view_command_over_fresh_world.Goals as goal
 
 pub returns-in_err-arg-clause-app : goal.returns-in_err-arg-clause-app
 returns-in_err-arg-clause-app c = grind (arith, common_steps)
