@@ -70,14 +70,15 @@ empty_files m names given empty o tells = grind (arith, raw_values-rows, length-
 
 -- rows of `view` that give no world give no options
 pub no_view_world : (m : ArgMatches) → ((actors : ℕ) (ring : Ring) → GivesWorld (rows_of (found_of m)) actors ring → ⊥) → (o : Options) → GivesView (rows_of (found_of m)) o → ⊥
-no_view_world m none (View files actors ring start history trace) tells = none actors ring tells.2
+no_view_world m none (View files actors ring start live history trace) tells = none actors ring tells.2
 no_view_world m none _ tells = tells
 
--- rows of `view` that give no start with both flags give no options
+-- rows of `view` that give no start with all flags give no options
 pub no_view_start : (m : ArgMatches)
-    → ((start : Option Text) (history trace : Bool) → GivesStart (rows_of (found_of m)) start → GivesFlag (rows_of (found_of m)) (codes "history") history → GivesFlag (rows_of (found_of m)) (codes "trace") trace → ⊥)
+    → ((start : Option Text) (live history trace : Bool) → GivesStart (rows_of (found_of m)) start → GivesFlag (rows_of (found_of m)) (codes "live") live
+    → GivesFlag (rows_of (found_of m)) (codes "history") history → GivesFlag (rows_of (found_of m)) (codes "trace") trace → ⊥)
     → (o : Options) → GivesView (rows_of (found_of m)) o → ⊥
-no_view_start m none (View files actors ring start history trace) tells = none (option_map (λ name. name.now) start) history trace tells.3 tells.4 tells.5
+no_view_start m none (View files actors ring start live history trace) tells = none (option_map (λ name. name.now) start) live history trace tells.3 tells.4 tells.5 tells.6
 no_view_start m none _ tells = tells
 
 -- rows of `load` that give no file and no flag for the trace give no options

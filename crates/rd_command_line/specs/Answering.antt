@@ -1,19 +1,26 @@
 -- What the program does for the words of a command line, over files and streams. `remaining` gives
--- the bytes that an opened file has left, where they are known, and `text` the text of a word. With
--- `traced`, a trace follows the report of a run that came to its end.
-use Rattle.std.specs.Prelude.{◌≡◌, ◌≢◌, ◌⊎◌, ℕ, Bool, List, [], ◌∷◌, codes, length, map, Option, None, Some, IfSome, Result, Ok, Err, Vec}
+-- the bytes that an opened file has left and `contents` those that were written to it, where they
+-- are known, and `text` the text of a word. With `traced`, a trace follows the report of a run that
+-- came to its end.
+use Rattle.std.specs.Prelude.{◌≡◌, ◌≢◌, ◌⊎◌, ℕ, Bool, true, false, List, [], ◌∷◌, codes, length, map, Option, None, Some, IfSome, Result, Ok, Err, Vec}
 use Rattle.std.specs.Borrow.{Bor}
 use Rattle.std.specs.Global.{Global}
 use Rattle.clap.specs.Walk.{Text}
 use Rattle.rd_marks.specs.BookState.{BookState}
-use Rattle.rd_script.specs.Streams.{Devices, IsUnused, Stream}
+use Rattle.rd_script.specs.declared.devices.sources.ReadSource.{ReadSource}
+use Rattle.rd_script.specs.declared.devices.sinks.WriteSink.{WriteSink}
+use Rattle.rd_script.specs.Streams.{Devices, IsUnused, Stream, reader_source, writer_sink}
 use Rattle.rd_script.specs.Ring.{ring_length}
 use Rattle.rd_script.specs.AnyBook.{any_state, fresh_state}
 use Rattle.rd_script.specs.declared.any_book.AnyBook.{AnyBook}
 use Rattle.rd_program.specs.declared.faults.ProgramFault.{ProgramFault}
 use Rattle.rd_program.specs.declared.faults.ProgramFault.TheVariants as program
 use Rattle.rd_program.specs.Program.{IsReadOrNoMemory, LoadsBook, PlaysScript, ResumesTrace, AreUnused}
+use Rattle.rd_view.specs.declared.live.ViewerEnd.{ViewerEnd}
+use Rattle.rd_program.specs.Live.{ViewsLive}
 use Rattle.rd_program.specs.Viewers.{ViewsOver}
+use Rattle.rd_program.specs.declared.setups.Done.{Done}
+use Rattle.rd_program.specs.declared.setups.Done.TheVariants.{Counted, Lived}
 use Rattle.rd_program.specs.declared.setups.ViewExtras.{ViewExtras}
 use Rattle.rd_command_line.specs.declared.requests.Options.{Options}
 use Rattle.rd_command_line.specs.declared.requests.Options.TheVariants.{Run, View, Load}
@@ -78,6 +85,28 @@ abbrev pub ViewsFilesAfter : {F : Type 0} → (F → Option (List ℕ)) → Opti
 ViewsFilesAfter remaining None count before extras output result = ViewsFiles remaining count before extras output result
 ViewsFilesAfter remaining (Some name) count before extras output result = ViewsFilesFrom remaining count extras output result
 
+-- the result of opening a book: without the name of a trace to start with, a book in this state,
+-- or `NoMemory`; with one, what loading the trace in a file gives
+abbrev pub OpensBook : {F : Type 0} → (F → Option (List ℕ)) → Option (Bor Text) → BookState → Result AnyBook ProgramFault → Type 0
+OpensBook remaining None before (Ok book) = any_state book ≡ before
+OpensBook remaining None before (Err fault) = fault ≡ program.NoMemory
+OpensBook remaining (Some name) before result = LoadsFile remaining result
+
+-- a source over an opened file, and a sink over one, of which nothing was used yet
+abbrev pub OpensFiles : {F : Type 0} → (F → Option (List ℕ)) → (F → Option (List ℕ)) → ReadSource F → WriteSink F → Type 0
+OpensFiles {F} remaining contents reader writer =
+    (read : F) × (replies : F) × ((reader_source remaining).bytes reader ≡ remaining read) × ((writer_sink contents).contents writer ≡ contents replies)
+
+-- what `view --live` did for files of these names. No book was opened, or memory was refused, and
+-- the output was not used. Or a book was opened, without the name of a trace in this state; then
+-- viewers were there at once over it, one for each name: it read one file, and its replies went to
+-- another one
+abbrev pub ViewsFilesLive : {F : Type 0} → (F → Option (List ℕ)) → (F → Option (List ℕ)) → Option (Bor Text) → List Text → BookState → ViewExtras → Stream → Result (Vec ViewerEnd Global) ProgramFault → Type 0
+ViewsFilesLive remaining contents start names before extras output result =
+    ((fault : ProgramFault) × (result ≡ Err fault) × (OpensBook remaining start before (Err fault) ⊎ (fault ≡ program.NoMemory)) × IsUnused output)
+    ⊎ ((book : AnyBook) × OpensBook remaining start before (Ok book)
+    × ViewsLive (λ name. OpensFiles remaining contents) (reader_source remaining) (writer_sink contents) (any_state book) names extras output result)
+
 -- what `run` did for a file's name over a book in this state. For the name `-` it played the script
 -- on the input; for any other name it played the script in a file, if that could be opened, and did
 -- not use the input
@@ -86,37 +115,56 @@ PlaysFileOrInput remaining name before traced d result =
     ((name ≡ codes "-") × PlaysScript before traced d result)
     ⊎ ((name ≢ codes "-") × IsUnused d.input × PlaysFile remaining before traced d.output result)
 
+-- what was done, from a number of lines or calls
+abbrev pub counted : Result ℕ ProgramFault → Result Done ProgramFault
+counted (Ok count) = Ok (Counted count)
+counted (Err fault) = Err fault
+
+-- what was done, from how viewers ended that were there at once
+abbrev pub lived : Result (Vec ViewerEnd Global) ProgramFault → Result Done ProgramFault
+lived (Ok ends) = Ok (Lived ends)
+lived (Err fault) = Err fault
+
+-- what `view` did for files of these names, over a book in this state without the name of a trace to
+-- start with, by whether its viewers were there at once
+abbrev pub Views : {F : Type 0} → (F → Option (List ℕ)) → (F → Option (List ℕ)) → Bool → Option (Bor Text) → List Text → BookState → ViewExtras → Stream → Result Done ProgramFault → Type 0
+Views remaining contents true start names before extras output result =
+    (ends : Result (Vec ViewerEnd Global) ProgramFault) × (result ≡ lived ends) × ViewsFilesLive remaining contents start names before extras output ends
+Views remaining contents false start names before extras output result =
+    (count : Result ℕ ProgramFault) × (result ≡ counted count) × ViewsFilesAfter remaining start (length names) before extras output count
+
 -- what the program did for these options, with this result: `run` and `view` over the options'
 -- fresh world, `load` and `view --start` over the book of a trace. `view` does not use the input
-abbrev pub FollowsOptions : {F : Type 0} → (F → Option (List ℕ)) → Options → Devices → Result ℕ ProgramFault → Type 0
-FollowsOptions remaining (Run file actors ring trace) d result =
-    PlaysFileOrInput remaining file.now (fresh_state (ring_length ring) actors) trace d result
-FollowsOptions remaining (View files actors ring start history trace) d result =
+abbrev pub FollowsOptions : {F : Type 0} → (F → Option (List ℕ)) → (F → Option (List ℕ)) → Options → Devices → Result Done ProgramFault → Type 0
+FollowsOptions remaining contents (Run file actors ring trace) d result =
+    (count : Result ℕ ProgramFault) × (result ≡ counted count) × PlaysFileOrInput remaining file.now (fresh_state (ring_length ring) actors) trace d count
+FollowsOptions remaining contents (View files actors ring start live history trace) d result =
     IsUnused d.input
-    × ViewsFilesAfter remaining start (length files.items) (fresh_state (ring_length ring) actors) (record { history = history; trace = trace }) d.output result
-FollowsOptions remaining (Load file trace) d result = ResumesFile remaining trace d result
+    × Views remaining contents live start (map (λ file. file.now) files.items) (fresh_state (ring_length ring) actors) (record { history = history; trace = trace }) d.output result
+FollowsOptions remaining contents (Load file trace) d result =
+    (count : Result ℕ ProgramFault) × (result ≡ counted count) × ResumesFile remaining trace d count
 
 -- the outcome of these words: they give options, and the outcome is the result of doing what these
 -- ask for; or the outcome is a fault with which the words end, and neither stream was used
-abbrev pub FollowsWords : {F : Type 0} → (F → Option (List ℕ)) → List Text → Devices → Outcome → Type 0
-FollowsWords remaining words d outcome =
-    ((options : Options) × (done : Result ℕ ProgramFault) × GivesOptions words options
-    × FollowsOptions remaining options d done × (outcome ≡ Ok done))
+abbrev pub FollowsWords : {F : Type 0} → (F → Option (List ℕ)) → (F → Option (List ℕ)) → List Text → Devices → Outcome → Type 0
+FollowsWords remaining contents words d outcome =
+    ((options : Options) × (done : Result Done ProgramFault) × GivesOptions words options
+    × FollowsOptions remaining contents options d done × (outcome ≡ Ok done))
     ⊎ ((fault : OptionsFault) × GivesFault words fault × (outcome ≡ Err fault) × AreUnused d)
 
 -- the outcome of words that may have been taken from the system: if they were, the outcome of these
 -- words; if not, the fault, with neither stream used
-abbrev pub FollowsWordsOrFault : {F S : Type 0} → (F → Option (List ℕ)) → (S → Text) → Result (Vec S Global) OptionsFault → Devices → Outcome → Type 0
-FollowsWordsOrFault remaining text (Ok words) d outcome = FollowsWords remaining (map text words.items) d outcome
-FollowsWordsOrFault remaining text (Err fault) d outcome = (outcome ≡ Err fault) × AreUnused d
+abbrev pub FollowsWordsOrFault : {F S : Type 0} → (F → Option (List ℕ)) → (F → Option (List ℕ)) → (S → Text) → Result (Vec S Global) OptionsFault → Devices → Outcome → Type 0
+FollowsWordsOrFault remaining contents text (Ok words) d outcome = FollowsWords remaining contents (map text words.items) d outcome
+FollowsWordsOrFault remaining contents text (Err fault) d outcome = (outcome ≡ Err fault) × AreUnused d
 
 -- what the program did from its words to its end: `does` has how it came to its outcome, and `ends`
 -- how it ended after the outcome
-pub record RunsCommandLine {F S : Type 0} (remaining : F → Option (List ℕ)) (text : S → Text) (words : Result (Vec S Global) OptionsFault) (status : ℕ) (d : Devices) (errors : Stream) : Type 0 where
+pub record RunsCommandLine {F S : Type 0} (remaining contents : F → Option (List ℕ)) (text : S → Text) (words : Result (Vec S Global) OptionsFault) (status : ℕ) (d : Devices) (errors : Stream) : Type 0 where
   pub outcome : Outcome
   -- the bytes that the output had at the outcome, and whether it had failed
   pub reported : Option (List ℕ)
   pub report_failed : Bool
-  pub does : FollowsWordsOrFault remaining text words
+  pub does : FollowsWordsOrFault remaining contents text words
       (record d { output = record d.output { after = reported; failed = report_failed } }) outcome
   pub ends : Ends outcome status report_failed (record d.output { before = reported }) errors

@@ -15,11 +15,11 @@ use Rattle.clap.specs.declared.error.kind.ErrorKind.TheVariants.{DisplayHelp, Di
 use Rattle.rd_command_line.specs.declared.requests.Options.{Options}
 use Rattle.rd_command_line.specs.declared.requests.Options.TheVariants.{Run, View, Load}
 use Rattle.rd_command_line.specs.declared.requests.OptionsFault.{OptionsFault}
-use Rattle.rd_command_line.specs.declared.requests.OptionsFault.TheVariants.{Shown, Refused, TooManyFiles, NoMemory}
+use Rattle.rd_command_line.specs.declared.requests.OptionsFault.TheVariants.{Shown, Refused, TooManyFiles, SharedFile, NoMemory}
 use Rattle.rd_cell.specs.declared.limits.TheConstants.{MOST_ACTORS}
 use Rattle.rd_desk.specs.declared.desks.TheConstants.{MOST_VIEWERS}
 use Rattle.rd_script.specs.declared.rings.Ring.{Ring}
-use Rattle.rd_command_line.specs.Options.{file_count, ring_text, flag_text}
+use Rattle.rd_command_line.specs.Options.{SharesNoFile, file_count, ring_text, flag_text}
 
 -- a list of the names that an option's value may have, as clap is given it
 abbrev pub ValueNames : Type 0
@@ -76,10 +76,12 @@ run_app names = with_rule (run_app_without_trace names) (flag_rule (codes "trace
 abbrev pub view_app_over_fresh_world : ValueNames → App
 view_app_over_fresh_world names = with_rule (with_rule (with_rule (new_app (codes "view")) files_rule) actors_rule) (ring_rule names)
 
--- the subcommand `view`, with `--start`, `--history` and `--trace`
+-- the subcommand `view`, with `--start`, `--live`, `--history` and `--trace`
 abbrev pub view_app : ValueNames → App
 view_app names =
-    with_rule (with_rule (with_rule (view_app_over_fresh_world names) start_rule) (flag_rule (codes "history"))) (flag_rule (codes "trace"))
+    with_rule
+    (with_rule (with_rule (with_rule (view_app_over_fresh_world names) start_rule) (flag_rule (codes "live"))) (flag_rule (codes "history")))
+    (flag_rule (codes "trace"))
 
 -- the subcommand `load`: the file of the trace, and `--trace`
 abbrev pub load_app : App
@@ -146,10 +148,10 @@ GivesRun rows _ = ⊥
 -- the values that clap found for the arguments of `view` give these options, which are a `View`
 -- with at least one file. With `--start`, the options have 4 actors and rings of 4 cells
 abbrev pub GivesView : List Row → Options → Type 0
-GivesView rows (View files actors ring start history trace) =
+GivesView rows (View files actors ring start live history trace) =
     (all_of (codes "files") rows ≡ Some (map (λ file. file.now) files.items)) × (1 ≤ length files.items)
     × GivesWorld rows actors ring × GivesStart rows (option_map (λ name. name.now) start)
-    × GivesFlag rows (codes "history") history × GivesFlag rows (codes "trace") trace
+    × GivesFlag rows (codes "live") live × GivesFlag rows (codes "history") history × GivesFlag rows (codes "trace") trace
 GivesView rows _ = ⊥
 
 -- the values that clap found for the arguments of `load` give these options, which are a `Load`
@@ -194,11 +196,13 @@ pub record IsFaultlessWithoutOptions (words : List Text) : Type 0 where
   pub faultless : fault_of (program_app names) words ≡ []
   pub nothing : (options : Options) → GivesSubcommand (subcommand_of (program_app names) words) options → ⊥
 
--- why these words end with this fault. `NoMemory` may come of any words, and `TooManyFiles` of
--- options with too many files; `Shown` comes of a request for help or the version. `Refused` comes
--- of any other fault of clap, or of values that give no options
+-- why these words end with this fault. `NoMemory` may come of any words, `TooManyFiles` of options
+-- with too many files, and `SharedFile` of options by which viewers share one; `Shown` comes of a
+-- request for help or the version. `Refused` comes of any other fault of clap, or of values that
+-- give no options
 abbrev pub GivesFault : List Text → OptionsFault → Type 0
 GivesFault words NoMemory = ⊤
 GivesFault words TooManyFiles = (options : Options) × GivesOptions words options × (MOST_VIEWERS < file_count options)
+GivesFault words SharedFile = (options : Options) × GivesOptions words options × (SharesNoFile options → ⊥)
 GivesFault words (Shown error) = (is_help_or_version (kind_of error) ≡ true) × HasFault words (kind_of error)
 GivesFault words (Refused error) = (is_help_or_version (kind_of error) ≡ false) × (HasFault words (kind_of error) ⊎ IsFaultlessWithoutOptions words)

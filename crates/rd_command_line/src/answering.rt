@@ -11,15 +11,18 @@ ghost use Rattle.rd_program.specs.declared.faults.ProgramFault.TheVariants.{Read
 ghost use Rattle.rd_program.specs.Program.{IsReadOrNoMemory};
 ghost use Rattle.rd_command_line.specs.Options.{AreInRange};
 ghost use Rattle.rd_command_line.specs.Outcomes.{is_shown};
-ghost use Rattle.rd_command_line.specs.Answering.{AreWholeTexts, FollowsWords, FollowsOptions, FollowsWordsOrFault, LoadsFile, ResumesFile, RunsCommandLine, PlaysFile, PlaysFileOrInput, ViewsFiles, ViewsFilesAfter, ViewsFilesFrom};
+ghost use Rattle.rd_command_line.specs.Answering.{AreWholeTexts, FollowsWords, FollowsOptions, FollowsWordsOrFault, LoadsFile, OpensBook, ResumesFile, RunsCommandLine, PlaysFile, PlaysFileOrInput, ViewsFiles, ViewsFilesAfter, ViewsFilesFrom, ViewsFilesLive, counted, lived};
 
 use super::command_line::options;
 use super::outcomes::{Outcome, show_outcome};
 use super::requests::{Options, OptionsFault};
+use super::terminals::file_terminals;
 use rd_program::{
-    ProgramFault, Setup, ViewExtras, load_book, play, read_whole_text, resume, view, view_book,
+    Done, ProgramFault, Setup, ViewExtras, load_book, play, read_whole_text, resume, view,
+    view_book, view_live,
 };
 use rd_script::{AnyBook, ReadSource, Sink, Source};
+use rd_view::ViewerEnd;
 use std::alloc::Global;
 use std::convert::AsStr;
 use std::fs::{self, Files};
@@ -46,10 +49,13 @@ pub fn run_command_line<
     output: &mut O,
     errors: &mut E,
 ) -> ExitCode
+where
+    R::File: Send,
+    R::Dir: Send,
     requires input_works { I.has_failed input.old ≡ false }
     requires output_works { O.has_failed output.old ≡ false }
     requires errors_work { E.has_failed errors.old ≡ false }
-    ensures performs { RunsCommandLine R.File.remaining S.text words (exit_status result)
+    ensures performs { RunsCommandLine R.File.remaining R.File.contents S.text words (exit_status result)
         (devices I.Source O.Sink input.old input.new output.old output.new)
         (sink_stream E.Sink errors.old errors.new) }
 {
@@ -66,9 +72,12 @@ fn follow_words_or_fault<R: Files + Threads + Wait + Sync, S: AsStr + Drop, I: S
     input: &mut I,
     output: &mut O,
 ) -> Outcome
+where
+    R::File: Send,
+    R::Dir: Send,
     requires input_works { I.has_failed input.old ≡ false }
     requires output_works { O.has_failed output.old ≡ false }
-    ensures answers { FollowsWordsOrFault R.File.remaining S.text words
+    ensures answers { FollowsWordsOrFault R.File.remaining R.File.contents S.text words
         (devices I.Source O.Sink input.old input.new output.old output.new) result }
     ensures shown { is_shown result ≡ true → O.has_failed output.new ≡ false }
 {
@@ -87,9 +96,12 @@ pub fn follow_words<R: Files + Threads + Wait + Sync, S: AsStr, I: Source, O: Si
     input: &mut I,
     output: &mut O,
 ) -> Outcome
+where
+    R::File: Send,
+    R::Dir: Send,
     requires input_works { I.has_failed input.old ≡ false }
     requires output_works { O.has_failed output.old ≡ false }
-    ensures answers { FollowsWords R.File.remaining (map S.text words.now)
+    ensures answers { FollowsWords R.File.remaining R.File.contents (map S.text words.now)
         (devices I.Source O.Sink input.old input.new output.old output.new) result }
     ensures shown { is_shown result ≡ true → O.has_failed output.new ≡ false }
 {
@@ -97,22 +109,24 @@ pub fn follow_words<R: Files + Threads + Wait + Sync, S: AsStr, I: Source, O: Si
     Ok(follow_options(rt, alloc, asked, input, output))
 }
 
-/// Does what the options ask for. Returns the number of the script's lines, or for `view` the
-/// number of recorded calls. Fails as `play_file_or_input`, `view_files_after` or `resume_file`
-/// does.
-/// There must be 1 to 16 actors and, for `view`, 1 to 64 files. Neither stream may have failed
-/// before.
+/// Does what the options ask for. Returns the number of the script's lines, for `view` the number
+/// of recorded calls, or for `view --live` how each viewer ended. Fails as `play_file_or_input`,
+/// `view_files_after`, `view_files_live` or `resume_file` does. There must be 1 to 16 actors and,
+/// for `view`, 1 to 64 files. Neither stream may have failed before.
 fn follow_options<R: Files + Threads + Wait + Sync, I: Source, O: Sink>(
     rt: &R,
     alloc: Global,
     asked: Options<'_>,
     input: &mut I,
     output: &mut O,
-) -> Result<u64, ProgramFault>
+) -> Result<Done, ProgramFault>
+where
+    R::File: Send,
+    R::Dir: Send,
     requires input_works { I.has_failed input.old ≡ false }
     requires output_works { O.has_failed output.old ≡ false }
     requires actors { AreInRange asked }
-    ensures { FollowsOptions R.File.remaining asked.entry
+    ensures { FollowsOptions R.File.remaining R.File.contents asked.entry
         (devices I.Source O.Sink input.old input.new output.old output.new) result }
 {
     match asked {
@@ -121,32 +135,51 @@ fn follow_options<R: Files + Threads + Wait + Sync, I: Source, O: Sink>(
             actors,
             ring,
             trace,
-        } => play_file_or_input(
-            rt,
-            alloc,
-            file,
-            input,
-            output,
-            Setup { actors, ring },
-            trace,
-        ),
+        } => {
+            let setup = Setup { actors, ring };
+            counted(play_file_or_input(rt, alloc, file, input, output, setup, trace))
+        }
         Options::View {
             files,
             actors,
             ring,
             start,
+            live,
             history,
             trace,
-        } => view_files_after(
-            rt,
-            alloc,
-            start,
-            files.as_slice(),
-            output,
-            Setup { actors, ring },
-            ViewExtras { history, trace },
-        ),
-        Options::Load { file, trace } => resume_file(rt, alloc, file, input, output, trace),
+        } => {
+            let setup = Setup { actors, ring };
+            let extras = ViewExtras { history, trace };
+            let names = files.as_slice();
+            if live {
+                lived(view_files_live(rt, alloc, start, names, output, setup, extras))
+            } else {
+                counted(view_files_after(rt, alloc, start, names, output, setup, extras))
+            }
+        }
+        Options::Load { file, trace } => {
+            counted(resume_file(rt, alloc, file, input, output, trace))
+        }
+    }
+}
+
+/// Returns what was done, from a number of lines or calls.
+fn counted(count: Result<u64, ProgramFault>) -> Result<Done, ProgramFault>
+    ensures { result ≡ counted count }
+{
+    match count {
+        Ok(count) => Ok(Done::Counted(count)),
+        Err(fault) => Err(fault),
+    }
+}
+
+/// Returns what was done, from how viewers ended that were there at once.
+fn lived(ends: Result<Vec<ViewerEnd>, ProgramFault>) -> Result<Done, ProgramFault>
+    ensures { result ≡ lived ends }
+{
+    match ends {
+        Ok(ends) => Ok(Done::Lived(ends)),
+        Err(fault) => Err(fault),
     }
 }
 
@@ -287,6 +320,60 @@ fn view_files_over<R: Files + Threads + Wait + Sync, O: Sink>(
 {
     let scripts = read_files(rt, alloc, names)?;
     view_book(rt, alloc, scripts.as_slice(), output, book, extras)
+}
+
+/// Lets viewers work on one book at once, each reading one of these files as it comes, in a thread
+/// of its own, and appending its replies to the file of that name with `.replies` behind it. The
+/// book is that of the trace in the file `start` if there is one, which is loaded before any other
+/// file is opened, else a fresh world's. When all viewers have ended, writes to the output what
+/// `view_live` writes with these extras, and returns how each ended. Fails as `opened_book` does or
+/// with `NoMemory`, and the output is then not used; or as `view_live` does. There must be 1 to 64
+/// names, and the output must not have failed before.
+fn view_files_live<R: Files + Threads + Wait + Sync, O: Sink>(
+    rt: &R,
+    alloc: Global,
+    start: Option<&str>,
+    names: &[&str],
+    output: &mut O,
+    setup: Setup,
+    extras: ViewExtras,
+) -> Result<Vec<ViewerEnd>, ProgramFault>
+where
+    R::File: Send,
+    R::Dir: Send,
+    requires output_works { O.has_failed output.old ≡ false }
+    requires some_files { 1 ≤ length names.now }
+    requires few_files { length names.now ≤ MOST_VIEWERS }
+    ensures { ViewsFilesLive R.File.remaining R.File.contents start.entry
+        (map (λ name. name.now) names.now)
+        (fresh_state (ring_length setup.ring) setup.actors) extras
+        (sink_stream O.Sink output.old output.new) result }
+{
+    let book = opened_book(rt, alloc, start, setup)?;
+    let Ok(terminals) = file_terminals(alloc, rt, names) else {
+        return Err(ProgramFault::NoMemory);
+    };
+    view_live(rt, alloc, terminals, output, book, extras)
+}
+
+/// Returns the book of the trace in the file `start` if there is one, else one over a fresh world.
+/// Fails as `load_file` does, or with `NoMemory` if memory for the world is refused.
+fn opened_book<R: Files>(
+    rt: &R,
+    alloc: Global,
+    start: Option<&str>,
+    setup: Setup,
+) -> Result<AnyBook, ProgramFault>
+    ensures { OpensBook R.File.remaining start.entry
+        (fresh_state (ring_length setup.ring) setup.actors) result }
+{
+    match start {
+        Some(name) => load_file(rt, alloc, name),
+        None => match AnyBook::fresh(alloc, setup.ring, setup.actors) {
+            Ok(book) => Ok(book),
+            Err(_) => Err(ProgramFault::NoMemory),
+        },
+    }
 }
 
 /// Loads the trace in the file of this name, and returns its book. Fails with `Read` if the file

@@ -10,7 +10,7 @@ ghost use Rattle.clap.specs.Walk.{Text, first_of};
 ghost use Rattle.clap.specs.Words.{app_of, found_of, kind_of, rows_of, rule_of, subcommand_rows_of};
 ghost use Rattle.clap.specs.declared.builder.command.Command.TheViews.{out-Command};
 ghost use Rattle.clap.specs.declared.error.kind.ErrorKind.TheVariants.{InvalidValue};
-ghost use Rattle.rd_command_line.specs.Options.{IsRefusedOrNoMemory, AreInRange, flag_text, ring_text};
+ghost use Rattle.rd_command_line.specs.Options.{IsRefusedOrNoMemory, AreInRange, SharesNoFile, flag_text, ring_text};
 ghost use Rattle.rd_command_line.specs.CommandLine.{BothAreRingSizes, ValueNamesPair, AreRingSizes, GivesSubcommand, text_or_4, SpellsActors, GivesWorld, GivesStart, GivesFlag, GivesFileAndTrace, GivesRun, GivesView, GivesLoad, GivesOptions, GivesFault};
 ghost use Rattle.rd_command_line.specs.CommandLine.{file_rule, files_rule, actors_rule, ring_rule, by_default_4, start_rule, flag_rule, run_app_without_trace, run_app, view_app_over_fresh_world, view_app, load_app, program_app};
 
@@ -39,11 +39,13 @@ const START_CONFLICT: &str = "--start can't be used with --actors or --ring";
 ///
 /// `Shown` if the words ask for help or for the version; `Refused` if `clap` finds a mistake in
 /// them, or values that give no options, as `--start` with `--actors` or `--ring`; `TooManyFiles`
-/// if `view` names more than 64 files; `NoMemory` if memory was refused.
+/// if `view` names more than 64 files; `SharedFile` if viewers of `view --live` would share one;
+/// `NoMemory` if memory was refused.
 pub fn options<'a, S: AsStr>(alloc: Global, words: &'a [S]) -> Result<Options<'a>, OptionsFault>
     ensures ok { IfOk result (GivesOptions (map S.text words.entry.now)) }
     ensures err { IfErr result (GivesFault (map S.text words.entry.now)) }
     ensures actors { IfOk result AreInRange }
+    ensures apart { IfOk result SharesNoFile }
 {
     let mut command = program_command(alloc)?;
     let matches = command.try_get_matches_from_mut(words)?;
@@ -53,6 +55,9 @@ pub fn options<'a, S: AsStr>(alloc: Global, words: &'a [S]) -> Result<Options<'a
     };
     if options.has_too_many_files() {
         return Err(OptionsFault::TooManyFiles);
+    }
+    if options.shares_a_file() {
+        return Err(OptionsFault::SharedFile);
     }
     Ok(options)
 }
@@ -152,7 +157,7 @@ fn view_options<'a>(alloc: Global, view: &ArgMatches<'a>) -> Result<Option<Optio
     let Some((actors, ring)) = actors_and_ring(view) else {
         return Ok(None);
     };
-    let Some((start, history, trace)) = start_and_flags(view) else {
+    let Some((start, live, history, trace)) = start_and_flags(view) else {
         return Ok(None);
     };
     let files = Vec::from_slice(alloc, files)?;
@@ -161,21 +166,25 @@ fn view_options<'a>(alloc: Global, view: &ArgMatches<'a>) -> Result<Option<Optio
         actors,
         ring,
         start,
+        live,
         history,
         trace,
     }))
 }
 
-/// Returns the name of the trace to start with, if there is one, and whether the history and the
-/// trace are asked for, from the matches of `view`. Returns none if `--start` comes with `--actors`
-/// or `--ring`, or if a flag's value is missing or not one that the program takes.
-fn start_and_flags<'a>(view: &ArgMatches<'a>) -> Option<(Option<&'a str>, bool, bool)>
+/// Returns the name of the trace to start with, if there is one, and whether the viewers are there
+/// at once, and the history and the trace are asked for, from the matches of `view`. Returns none
+/// if `--start` comes with `--actors` or `--ring`, or if a flag's value is missing or not one that
+/// the program takes.
+fn start_and_flags<'a>(view: &ArgMatches<'a>) -> Option<(Option<&'a str>, bool, bool, bool)>
     ensures some { IfSome result (λ asked.
         GivesStart (rows_of (found_of view.now)) (option_map (λ name. name.now) asked.0)
-        × GivesFlag (rows_of (found_of view.now)) (codes "history") asked.1
-        × GivesFlag (rows_of (found_of view.now)) (codes "trace") asked.2) }
-    ensures none { IsNone result → (start : Option Text) (history trace : Bool)
+        × GivesFlag (rows_of (found_of view.now)) (codes "live") asked.1
+        × GivesFlag (rows_of (found_of view.now)) (codes "history") asked.2
+        × GivesFlag (rows_of (found_of view.now)) (codes "trace") asked.3) }
+    ensures none { IsNone result → (start : Option Text) (live history trace : Bool)
         → GivesStart (rows_of (found_of view.now)) start
+        → GivesFlag (rows_of (found_of view.now)) (codes "live") live
         → GivesFlag (rows_of (found_of view.now)) (codes "history") history
         → GivesFlag (rows_of (found_of view.now)) (codes "trace") trace → ⊥ }
 {
@@ -183,9 +192,10 @@ fn start_and_flags<'a>(view: &ArgMatches<'a>) -> Option<(Option<&'a str>, bool, 
         return None;
     }
     let start = view.get_str("start");
+    let live = flag(view, "live")?;
     let history = flag(view, "history")?;
     let trace = flag(view, "trace")?;
-    Some((start, history, trace))
+    Some((start, live, history, trace))
 }
 
 /// Returns whether the matches of `view` have a value for `--start` and one for `--actors` or
@@ -347,6 +357,7 @@ fn view_command<'a>(alloc: Global) -> Result<Command<'a>, AllocError>
 {
     view_command_over_fresh_world(alloc)?
         .arg(start_arg(alloc))?
+        .arg(live_arg(alloc))?
         .arg(history_arg(alloc))?
         .arg(trace_arg(alloc))
 }
@@ -404,6 +415,17 @@ fn start_arg<'a>(alloc: Global) -> Arg<'a>
         .long("start")
         .value_name("TRACE")
         .help("The trace whose session the viewers go on with, in place of a fresh world")
+}
+
+/// Returns the flag `--live` for `clap`.
+fn live_arg<'a>(alloc: Global) -> Arg<'a>
+    ensures { (rule_of result ≡ flag_rule (codes "live")) × (result.global ≡ false) }
+{
+    flag_arg(
+        alloc,
+        "live",
+        "Reads each FILE as it comes, and appends each reply to FILE.replies at once",
+    )
 }
 
 /// Returns the flag `--history` for `clap`.

@@ -10,6 +10,7 @@ mod answering;
 mod command_line;
 mod outcomes;
 mod requests;
+mod terminals;
 
 pub use answering::{follow_words, run_command_line};
 pub use command_line::{command_line_words, not_utf8_fault, options};

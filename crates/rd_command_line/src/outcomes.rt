@@ -7,7 +7,7 @@ ghost use Rattle.rd_program.specs.Endings.{TakesUnlessFailed};
 ghost use Rattle.rd_command_line.specs.Outcomes.{Ends, is_shown};
 
 use super::requests::OptionsFault;
-use rd_program::ProgramFault;
+use rd_program::{Done, ProgramFault};
 use rd_script::{Sink, write_all};
 use std::alloc::Global;
 use std::process::ExitCode;
@@ -15,13 +15,18 @@ use std::process::ExitCode;
 /// The message for a command line with more files than there may be viewers.
 const TOO_MANY_FILES: &str = "lcrqdb: 1 to 64 files\n";
 
-/// The outcome of a command line. `Ok(Ok(number))`: all that it asks for was done, with the number
-/// of the script's lines, or for `view` the number of recorded calls. `Ok(Err(fault))`: not all was
-/// done. `Err(fault)`: the command line gives no options.
-pub type Outcome = Result<Result<u64, ProgramFault>, OptionsFault>;
+/// The message for viewers that are there at once and would share a file.
+const SHARED_FILE: &str = "lcrqdb: no two viewers of --live can share a file\n";
+
+/// The outcome of a command line. `Ok(Ok(done))`: all that it asks for was done, with the number of
+/// the script's lines, for `view` the number of recorded calls, or for `view --live` how each
+/// viewer ended. `Ok(Err(fault))`: not all was done. `Err(fault)`: the command line gives no
+/// options.
+pub type Outcome = Result<Result<Done, ProgramFault>, OptionsFault>;
 
 /// Writes the message of an outcome, if it has one, and returns the exit status: 0 if all was done
-/// or if the outcome is `Shown`, 2 after `Refused` or `TooManyFiles`, and 1 after any other fault.
+/// and each viewer came to the end of its file, or if the outcome is `Shown`; 2 after `Refused`,
+/// `TooManyFiles` or `SharedFile`; and 1 after any other fault.
 /// The text of `Shown` goes to standard output, any other message to standard error. If memory for
 /// a text of `clap` is refused, the program ends as after `NoMemory`, with status 1. The status is
 /// the same if a stream fails, and a stream that gets no message is not called. Standard error must
@@ -44,10 +49,10 @@ pub fn show_outcome<O: Sink, E: Sink>(
 }
 
 /// Writes the message for a command line that gives no options, and returns the exit status: 0
-/// after `Shown`, 2 after `Refused` or `TooManyFiles`, 1 after `NoMemory`. If memory for a text of
-/// `clap` is refused, the program ends as after `NoMemory`. The status is the same if a stream
-/// fails, and a stream that gets no message is not called. Standard error must not have failed
-/// before, nor must standard output if the fault is `Shown`.
+/// after `Shown`, 2 after `Refused`, `TooManyFiles` or `SharedFile`, 1 after `NoMemory`. If memory
+/// for a text of `clap` is refused, the program ends as after `NoMemory`. The status is the same if
+/// a stream fails, and a stream that gets no message is not called. Standard error must not have
+/// failed before, nor must standard output if the fault is `Shown`.
 fn show_options_fault<O: Sink, E: Sink>(
     alloc: Global,
     fault: &OptionsFault,
@@ -76,6 +81,10 @@ fn show_options_fault<O: Sink, E: Sink>(
         },
         OptionsFault::TooManyFiles => {
             show_text(errors, TOO_MANY_FILES);
+            ExitCode::from(2)
+        }
+        OptionsFault::SharedFile => {
+            show_text(errors, SHARED_FILE);
             ExitCode::from(2)
         }
         OptionsFault::NoMemory => rd_program::show_program_fault(

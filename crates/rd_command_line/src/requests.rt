@@ -3,8 +3,9 @@
 ghost use Rattle.std.specs.Prelude.{◌≡◌, ◌<◌, ◌≤◌, true, false};
 ghost use Rattle.rd_desk.specs.declared.desks.TheConstants.{MOST_VIEWERS};
 ghost use Rattle.rd_command_line.specs.declared.requests.OptionsFault.TheVariants.{NoMemory};
-ghost use Rattle.rd_command_line.specs.Options.{file_count, options_fault};
+ghost use Rattle.rd_command_line.specs.Options.{SharesNoFile, file_count, options_fault};
 
+use super::terminals::are_apart;
 use clap::Error;
 use clap::error::ErrorKind;
 use rd_desk::MOST_VIEWERS;
@@ -36,6 +37,8 @@ pub enum Options<'a> {
         /// `--start`: the trace's file whose session the viewers go on with, in place of a fresh
         /// world.
         start: Option<&'a str>,
+        /// `--live`: whether the viewers are there at once, each reading its file as it comes.
+        live: bool,
         /// `--history`: whether the recorded calls follow their number.
         history: bool,
         /// `--trace`: whether the trace of the session comes last.
@@ -62,6 +65,22 @@ impl<'a> Options<'a> {
             _ => false,
         }
     }
+
+    /// Returns whether viewers that are there at once would share a file; false if they are not.
+    /// Files are told apart by their names.
+    pub(crate) fn shares_a_file(&self) -> bool
+        ensures yes { result ≡ true → SharesNoFile self.now → ⊥ }
+        ensures no { result ≡ false → SharesNoFile self.now }
+    {
+        match self {
+            Options::View {
+                live: true,
+                files,
+                ..
+            } => !are_apart(files.as_slice()),
+            _ => false,
+        }
+    }
 }
 
 /// Why the command line gives no options.
@@ -73,6 +92,8 @@ pub enum OptionsFault {
     Refused(Error),
     /// The command line names more files than there may be viewers.
     TooManyFiles,
+    /// Two viewers that are there at once would share a file.
+    SharedFile,
     /// Memory to read the command line was refused.
     NoMemory,
 }

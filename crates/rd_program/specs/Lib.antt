@@ -1,3 +1,4 @@
 pub mod Program
 pub mod Viewers
+pub mod Live
 pub mod Endings

@@ -1,9 +1,10 @@
-//! What a run begins in, and what a view writes behind its report.
+//! What a run begins in, what a view writes behind its report, and what was done at the end.
 
 ghost use Rattle.std.specs.Prelude.{◌≤◌};
 ghost use Rattle.rd_cell.specs.declared.limits.TheConstants.{MOST_ACTORS};
 
 use rd_script::Ring;
+use rd_view::ViewerEnd;
 
 /// The fresh world that a run begins in, by its size.
 #[derive(Clone, Copy, Debug, PartialEq, Eq)]
@@ -23,4 +24,13 @@ pub struct ViewExtras {
     pub history: bool,
     /// The trace of the session, as the last line.
     pub trace: bool,
+}
+
+/// What was done, where nothing stopped the program.
+#[derive(Drop)]
+pub enum Done {
+    /// This many lines of a script were answered, or this many calls of viewers recorded.
+    Counted(u64),
+    /// Viewers were there at once; how each ended, in order.
+    Lived(Vec<ViewerEnd>),
 }

@@ -110,7 +110,7 @@ fn view_over<R: Threads + Wait + Sync, K: Sink, const N: usize>(
 
 /// Appends to the text of a view what `extras` asks for: the lines of the history, and the trace of
 /// the book. Fails with `NoMemory` if memory is refused; a part may then have been appended.
-fn put_extras<const N: usize>(
+pub(crate) fn put_extras<const N: usize>(
     alloc: Global,
     text: &mut Vec<u8>,
     history: &History,

@@ -1,8 +1,19 @@
 -- What a call does to the streams that it reads and writes, from what these are before and after.
 use Rattle.std.specs.Prelude.{◌≡◌, ℕ, Bool, false, List, Option}
-use Rattle.std.specs.Io.KnownBytes.{Keeps}
+use Rattle.std.specs.Io.KnownBytes.{Keeps, prepend_known}
+use Rattle.rd_script.specs.declared.devices.sources.ReadSource.{ReadSource}
+use Rattle.rd_script.specs.declared.devices.sinks.WriteSink.{WriteSink}
 use Rattle.rd_script.specs.declared.devices.sources.Source.{Ghosts as SourceOf}
 use Rattle.rd_script.specs.declared.devices.sinks.Sink.{Ghosts as SinkOf}
+use Rattle.rd_script.specs.Portions.{pending_bytes}
+
+-- the contract-only members of a `ReadSource`, over readers that have these bytes left
+abbrev pub reader_source : {R : Type 0} → (R → Option (List ℕ)) → SourceOf (ReadSource R)
+reader_source remaining = record { bytes = λ s. prepend_known (pending_bytes s.portion) (remaining s.inner); has_failed = λ s. s.failed }
+
+-- the contract-only members of a `WriteSink`, over writers that have taken these bytes
+abbrev pub writer_sink : {W : Type 0} → (W → Option (List ℕ)) → SinkOf (WriteSink W)
+writer_sink contents = record { contents = λ s. contents s.inner; has_failed = λ s. s.failed }
 
 -- how a call changed a source or a sink: the bytes that a source has left, or that a sink has
 -- taken, before the call and after it (None where they aren't known), and whether it has failed by

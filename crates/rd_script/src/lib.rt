@@ -34,5 +34,5 @@ pub use rings::Ring;
 pub use script::run;
 pub use writing::commands::set_call;
 pub use writing::headings::{Heading, set_heading};
-pub use writing::lines::{set_answer, set_numbered_answer, write_answer};
+pub use writing::lines::{set_answer, set_numbered_answer, set_viewer_refusal, write_answer};
 pub use writing::texts::Text;

@@ -4,11 +4,11 @@
 
 A row is a command line, what is on standard input, and how many bytes standard output takes before
 it fails. Where one opens a file, standard input has another script, so that mixing them up shows.
-Scripts, traces and the stored text are in `rehearsed/`. The text has the words, the status, and
-what is then on the two streams, line by line; `FORMS` in a help stands for that constant of
-rd_script. It was checked by hand against the table of control points and the manual. It differs if
-the program ignores an option, a file or a line, or exchanges two commands, faults, streams or
-statuses.
+Scripts, traces and the stored text are in `rehearsed/`, and each row runs in a copy of it. The text has
+the words, the status, and what is then on the two streams and in the files of replies that `view --live`
+writes, line by line; `FORMS` in a help stands for that constant of rd_script. It was checked by hand
+against the table of control points and the manual. It differs if the program ignores an option, a file
+or a line, or exchanges two commands, faults, streams or statuses.
 
 Each row runs with each build of the program that is there: that of LLVM and, beside it, that of
 Rattle's own compiler. The status is 1 if a row is another one. Only Python's standard library is
@@ -19,6 +19,7 @@ import functools
 import itertools
 import re
 import resource
+import shutil
 import signal
 import tempfile
 import textwrap
@@ -83,6 +84,16 @@ REHEARSALS = [
     Rehearsal("view question.script --start missing.trace --history", "len\n"),
     Rehearsal("view question.script --start begun.trace --ring 2", "len\n"),
     Rehearsal("view question.script --actors 2 --start begun.trace", "len\n"),
+    Rehearsal("view --live questions.script", "len\n"),
+    Rehearsal("view --live faulty.script --history --trace --ring 2 --actors 2", "len\n"),
+    Rehearsal("view question.script --live --start begun.trace --history", "len\n"),
+    Rehearsal("view --live missing.script questions.script", "len\n"),
+    Rehearsal("view --live missing.script --start half.trace", "len\n"),
+    Rehearsal("view --live questions.script", "len\n", 12),
+    Rehearsal("view --live question.script", "len\n", 0),
+    Rehearsal("view --live question.script questions.script question.script", "len\n"),
+    Rehearsal("view --live questions.script questions.script.replies", "len\n"),
+    Rehearsal("view question.script question.script.replies", "len\n"),
     Rehearsal("--version", "", 0),
     # the most viewers that there may be, and one too many
     Rehearsal("view" + " question.script" * 64, ""),
@@ -98,17 +109,25 @@ def limit_files(most: int) -> None:
     resource.setrlimit(resource.RLIMIT_FSIZE, (most, most))
 
 
-def ended(built: str, row: Rehearsal) -> Ended:
-    """What a row gives by this build, which is called `lcrqdb` whatever its file is. An output with
-    little room is a file; standard error is always a pipe, which has no limit."""
+def ended(built: str, row: Rehearsal, folder: Path) -> Ended:
+    """What a row gives in a folder by this build, which is called `lcrqdb` whatever its file is. An
+    output with little room is a file; standard error is always a pipe, which has no limit."""
     words, given = ["lcrqdb", *row.words.split(" ")], row.given.encode()
     if row.room is None:
-        return program.run(words, given, cwd=REHEARSED, executable=built)
+        return program.run(words, given, cwd=folder, executable=built)
     with tempfile.TemporaryFile() as output:
         limit = functools.partial(limit_files, row.room)
-        got = program.run(words, given, stdout=output, cwd=REHEARSED, preexec_fn=limit, executable=built)
+        got = program.run(words, given, stdout=output, cwd=folder, preexec_fn=limit, executable=built)
         output.seek(0)
         return got._replace(output=output.read())
+
+
+def ended_apart(built: str, row: Rehearsal) -> tuple[Ended, dict[str, str]]:
+    """What a row gives in a copy of the folder, and the texts that are then in files of replies."""
+    with tempfile.TemporaryDirectory() as name:
+        folder = Path(shutil.copytree(REHEARSED, Path(name) / "rehearsed"))
+        got = ended(built, row, folder)
+        return got, {path.name: path.read_text(encoding="ascii") for path in sorted(folder.glob("*.replies"))}
 
 
 # ---- The stored text -----------------------------------------------------------------------------
@@ -123,9 +142,10 @@ def shown_stream(name: str, taken: str) -> str:
     return lines if taken.endswith("\n") else f"{lines}  {name}: no line feed at the end\n"
 
 
-def shown(row: Rehearsal, got: Ended, forms: str) -> str:
-    """What comes of a row, as the stored text has it, where `FORMS` stands for these forms."""
-    streams = {"output": got.output.decode(), "errors": got.errors}
+def shown(row: Rehearsal, got: Ended, replies: dict[str, str], forms: str) -> str:
+    """What comes of a row, as the stored text has it, with the texts of files of replies by their names.
+    `FORMS` stands for these forms."""
+    streams = {"output": got.output.decode(), "errors": got.errors} | replies
     texts = (shown_stream(name, taken.replace(forms, FORMS)) for name, taken in streams.items())
     return "".join([f"lcrqdb {row.words}\n", f"  status: {got.status}\n", *texts])
 
@@ -147,7 +167,7 @@ def difference(got: str, wanted: str) -> str:
 def row_fault(row: Rehearsal, wanted: str, built: str) -> str:
     """What is wrong with a row, or nothing."""
     forms = command_rows.texts_of(command_rows.KEYWORDS, FORMS)[0]
-    return difference(shown(row, ended(built, row), forms), wanted)
+    return difference(shown(row, *ended_apart(built, row), forms), wanted)
 
 
 def rows() -> program.Rows:

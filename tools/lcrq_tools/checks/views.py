@@ -15,34 +15,26 @@ Each seed prints one line for each build of the program; the status is 1 if a vi
 order. Only Python's standard library is used.
 """
 
-import itertools
 import random
 import tempfile
-from collections.abc import Iterator, Sequence
+from collections.abc import Iterator
 from dataclasses import dataclass
 from pathlib import Path
 
 from lcrq_tools import history, program
-from lcrq_tools.checks import histories
-from lcrq_tools.faults import Fault, Parser
+from lcrq_tools.checks import viewer_scripts
+from lcrq_tools.checks.viewer_scripts import (
+    ANY, HISTORY, TRACE,
+    answers_to, calls_of, difference, own, random_script, refusal_of, text_of, written_script,
+)
+from lcrq_tools.faults import Parser
 from lcrq_tools.history import History
 
 COUNT = 60  # seeds
-MOST_VIEWERS, MOST_ACTORS = 8, 4
+MOST_VIEWERS = 8
 MOST_LINES = (12, 60)  # of a short script, and of a long one
-MOST_LIVE = 30  # up to which number steps are named
 OVER_A_TRACE = 0.4  # how likely a view continues a trace
-
-# Lines that are no commands, each with its refusal.
-FAULTY = {"": "refused 22 BadLine", "hello": "refused 22 BadLine", "go1": "refused 22 BadLine"}
-FAULTY |= {"mark A": "refused 17 BadName", "x" * 257: "refused 23 LineTooLong"}
-# How often a script has a line, without its actor.
-QUERIES = ["show qtail", "step 1", "origin 9", "writer qhead", "actor 1", "marks", "markat 1", "same a b"]
-WEIGHTS = histories.WEIGHTS | {"mark": 4} | {line: 1 for line in [*QUERIES, *FAULTY]}
-
-HISTORY, TRACE = "--history", "--trace"
 FEWER: list[list[str]] = [[HISTORY], [TRACE], []]  # options besides both
-ANY = ""  # stands for a line that may be any one: no reply is empty
 
 
 @dataclass(frozen=True)
@@ -59,59 +51,25 @@ class View:
         return History(tuple(viewer for viewer, _ in calls), tuple(line for _, line in calls))
 
 
-def calls_of(script: list[str]) -> list[str]:
-    """The lines of a script that are commands."""
-    return [line for line in script if line not in FAULTY]
+# ---- Scripts -------------------------------------------------------------------------------------
 
 
-# ---- Runs ----------------------------------------------------------------------------------------
-
-
-def written(words: list[str], script: bytes = b"") -> list[str]:
-    """The lines that a run writes which ends well."""
-    ended = program.run(words, script)
-    if ended.status or ended.errors:
-        raise Fault(f"status {ended.status} of {' '.join(words[1:])}: {ended.errors.strip()}")
-    text = ended.output.decode("latin-1")
-    if not text.endswith("\n"):
-        raise Fault(f"{' '.join(words[1:])} writes no line feed at the end")
-    return program.lines_of(text)
-
-
-def random_script(chance: random.Random, actors: int) -> list[str]:
-    """A script of a viewer, some of whose lines are refused, and some no commands."""
-    count = chance.randint(0, chance.choice(MOST_LINES))
-    words = chance.choices([*WEIGHTS], [*WEIGHTS.values()], k=count)
-    return [histories.line_of(chance, it, chance.randint(1, actors), chance.randint(0, MOST_LIVE)) for it in words]
-
-
-def written_script(path: Path, script: list[str]) -> str:
-    """Writes a script; returns the name of its file."""
-    path.write_text("".join(f"{line}\n" for line in script), encoding="ascii")
-    return str(path)
+def script_of(chance: random.Random, actors: int) -> list[str]:
+    """A script of a viewer, short or long."""
+    return random_script(chance, actors, chance.randint(0, chance.choice(MOST_LINES)))
 
 
 def random_view(chance: random.Random, folder: Path, built: str) -> View:
     """A view of random scripts, which are written into a folder."""
-    actors, ring = chance.randint(1, MOST_ACTORS), chance.choice(["2", "4", "8"])
-    options = ["--actors", str(actors), "--ring", ring]
-    replay = [built, "run", "-", *options, TRACE]
+    machine = viewer_scripts.fresh_machine(chance, built)
     if chance.random() < OVER_A_TRACE:
-        before = written_script(folder / "before.script", random_script(chance, actors))
-        trace = written([built, "run", before, *options, TRACE])[-1]
-        start = written_script(folder / "start.trace", [trace])
-        options, replay = ["--start", start], [built, "load", start, TRACE]
-    scripts = [random_script(chance, actors) for _ in range(chance.randint(1, MOST_VIEWERS))]
+        machine = viewer_scripts.continued(machine, folder, script_of(chance, machine.actors))
+    scripts = [script_of(chance, machine.actors) for _ in range(chance.randint(1, MOST_VIEWERS))]
     files = [written_script(folder / f"{viewer}.script", script) for viewer, script in enumerate(scripts, 1)]
-    return View(scripts, [built, "view", *files, *options], replay)
+    return View(scripts, [built, "view", *files, *machine.options], machine.replay)
 
 
 # ---- What a view should write --------------------------------------------------------------------
-
-
-def own(viewer: int, asked: History, lines: Sequence[str]) -> list[str]:
-    """Of lines that belong to the calls of a history, those of one viewer's calls."""
-    return [line for it, line in zip(asked.viewers, lines) if it == viewer]
 
 
 def report_of(scripts: list[list[str]], asked: History, replies: list[str]) -> list[str]:
@@ -120,15 +78,8 @@ def report_of(scripts: list[list[str]], asked: History, replies: list[str]) -> l
     lines = []
     for viewer, script in enumerate(scripts, 1):
         left = iter(own(viewer, asked, replies))
-        lines += [f"viewer {viewer}", *(FAULTY[line] if line in FAULTY else next(left) for line in script)]
+        lines += [f"viewer {viewer}", *(refusal_of(line) or next(left) for line in script)]
     return [*lines, f"history {len(asked.lines)}"]
-
-
-def difference(what: str, got: Sequence[str], wanted: Sequence[str]) -> str:
-    """Where lines first differ from what is wanted, or nothing."""
-    pairs = enumerate(itertools.zip_longest(got, wanted, fillvalue="nothing more"), 1)
-    faults = (f"{what} {at} is `{it}`, wanted `{other}`" for at, (it, other) in pairs if other not in (ANY, it))
-    return next(faults, "") or ("" if len(got) == len(wanted) else f"{what}s are missing")
 
 
 def calls_fault(scripts: list[list[str]], asked: History) -> str:
@@ -138,25 +89,17 @@ def calls_fault(scripts: list[list[str]], asked: History) -> str:
     return next(filter(None, faults), "")
 
 
-def answers_to(view: View, asked: History) -> list[str]:
-    """The replies of one run to the calls of a history, and last its trace."""
-    answers = written(view.replay, asked.script())
-    if len(answers) != len(asked.lines) + 1:
-        raise Fault(f"a run of {len(asked.lines)} calls writes {len(answers)} lines, its trace the last one")
-    return answers
-
-
 def view_fault(view: View, options: list[str]) -> str:
     """What is wrong with what a view writes with these options, or nothing."""
-    lines = written([*view.words, *options])
+    lines = viewer_scripts.written([*view.words, *options])
     asked = view.one_by_one()
     if HISTORY in options:
-        asked = history.history_of("the view", "".join(f"{line}\n" for line in lines))
+        asked = history.history_of("the view", text_of(lines))
         fault = calls_fault(view.scripts, asked)
         if fault:
             return fault
     is_known = HISTORY in options or len(view.scripts) == 1
-    *replies, trace = answers_to(view, asked) if is_known else [ANY] * (len(asked.lines) + 1)
+    *replies, trace = answers_to(view.replay, asked) if is_known else [ANY] * (len(asked.lines) + 1)
     wanted = report_of(view.scripts, asked, replies)
     if HISTORY in options:
         wanted += [f"{viewer} {line}" for viewer, line in zip(asked.viewers, asked.lines)]

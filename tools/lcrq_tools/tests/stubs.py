@@ -1,4 +1,5 @@
-"""What tests put in the place of the built program, and how they run a script of tools/."""
+"""What tests put in the place of the built program and of its answers, and how they run a script of
+tools/."""
 
 import contextlib
 import io
@@ -11,6 +12,7 @@ from lcrq_tools import program
 from lcrq_tools.faults import status_of
 
 NO_PROGRAM = shutil.which("true") or "/bin/true"  # which is not lcrqdb, and replies nothing
+SESSION = '{"events":[["enq",1,7],["go",1]]}'  # a trace
 
 
 @contextlib.contextmanager
@@ -33,3 +35,13 @@ def told(main: Callable[..., int], tool: str, *words: str) -> tuple[int, str, st
         except SystemExit as ended:  # as after --help
             status = int(ended.code or 0)
     return status, output.getvalue(), errors.getvalue()
+
+
+def answers(script: bytes) -> list[str]:
+    """What a run answers to lines that are `len` or make a step, and the trace."""
+    steps, lines = 0, script.decode().splitlines()
+    replies = []
+    for line in lines:
+        steps += line != "len"
+        replies.append(f"at {steps} 0" if line == "len" else f"ok {steps}")
+    return [*replies, SESSION]

@@ -1,13 +1,20 @@
 """What `tools/check.py rehearsals` compares with its stored text."""
 
 import shutil
+import tempfile
 import unittest
+from pathlib import Path
 
 from lcrq_tools.checks import rehearsals
 from lcrq_tools.checks.rehearsals import Rehearsal
 from lcrq_tools.program import Ended
 
 ECHO = shutil.which("echo") or "/bin/echo"
+
+
+def echoed(room: int | None) -> Ended:
+    """What `echo` gives to a row with so much room."""
+    return rehearsals.ended(ECHO, Rehearsal("two words", "", room), rehearsals.REHEARSED)
 
 
 class Streams(unittest.TestCase):
@@ -23,16 +30,31 @@ class Streams(unittest.TestCase):
         self.assertEqual(rehearsals.shown_stream("output", "ok 1\nok"), wanted)
 
     def test_words_status_and_streams_are_in_order(self) -> None:
-        text = rehearsals.shown(Rehearsal("run -", "len\n"), Ended(2, b"Help:\nforms\n", "no\n"), "forms")
-        self.assertEqual(text, "lcrqdb run -\n  status: 2\n  output|Help:\n  output|FORMS\n  errors|no\n")
+        row, got, replies = Rehearsal("run -", "len\n"), Ended(2, b"Help:\nforms\n", "no\n"), {"a.replies": "1 ok 1\n"}
+        text = "lcrqdb run -\n  status: 2\n  output|Help:\n  output|FORMS\n  errors|no\n"
+        self.assertEqual(rehearsals.shown(row, got, {}, "forms"), text)
+        self.assertEqual(rehearsals.shown(row, got, replies, "forms"), f"{text}  a.replies|1 ok 1\n")
 
     def test_an_output_takes_what_it_has_room_for(self) -> None:
         for room, taken in ((0, b""), (5, b"two w")):
-            status, output, errors = rehearsals.ended(ECHO, Rehearsal("two words", "", room))
+            status, output, errors = echoed(room)
             self.assertEqual((status, output), (1, taken))
             self.assertGreater(len(errors), room)  # which has no limit
-        self.assertEqual(rehearsals.ended(ECHO, Rehearsal("two words", "", 10)), (0, b"two words\n", ""))
-        self.assertEqual(rehearsals.ended(ECHO, Rehearsal("two words", "")), (0, b"two words\n", ""))
+        self.assertEqual(echoed(10), (0, b"two words\n", ""))
+        self.assertEqual(echoed(None), (0, b"two words\n", ""))
+
+    def test_files_of_replies_are_written_apart(self) -> None:
+        with tempfile.NamedTemporaryFile("w", suffix=".sh", delete=False) as script:
+            script.write("#!/bin/sh\nls; echo 1 ok 1 > a.replies\n")
+        path = Path(script.name)
+        try:
+            path.chmod(0o755)
+            got, replies = rehearsals.ended_apart(script.name, Rehearsal("view --live a", ""))
+        finally:
+            path.unlink()
+        self.assertEqual(replies, {"a.replies": "1 ok 1\n"})
+        self.assertEqual(got.output.decode().split(), sorted(it.name for it in rehearsals.REHEARSED.iterdir()))
+        self.assertFalse([*rehearsals.REHEARSED.glob("*.replies")])
 
 
 class Stored(unittest.TestCase):

@@ -3,26 +3,17 @@
 import unittest
 from unittest import mock
 
-from lcrq_tools.checks import views
-from lcrq_tools.checks.views import HISTORY, TRACE, View
+from lcrq_tools.checks import viewer_scripts, views
+from lcrq_tools.checks.viewer_scripts import HISTORY, TRACE
+from lcrq_tools.checks.views import View
 from lcrq_tools.program import tried
+from lcrq_tools.tests.stubs import SESSION, answers
 
 SCRIPTS = [["enq 1 7", "hello", "go 1"], ["mark A", "len"]]
 VIEW = View(SCRIPTS, ["view"], ["run"])
 REPORT = ["viewer 1", "ok 1", "refused 22 BadLine", "ok 2", "viewer 2", "refused 17 BadName", "at 1 0", "history 3"]
 CALLS = ["1 enq 1 7", "2 len", "1 go 1"]
-SESSION = '{"events":[["enq",1,7],["go",1]]}'
 WHOLE = [*REPORT, *CALLS, SESSION]
-
-
-def answers(script: bytes) -> list[str]:
-    """What a run answers to lines that are `len` or make a step, and the trace."""
-    steps, lines = 0, script.decode().splitlines()
-    replies = []
-    for line in lines:
-        steps += line != "len"
-        replies.append(f"at {steps} 0" if line == "len" else f"ok {steps}")
-    return [*replies, SESSION]
 
 
 def fault(lines: list[str], *options: str, view: View = VIEW) -> str:
@@ -30,7 +21,7 @@ def fault(lines: list[str], *options: str, view: View = VIEW) -> str:
     def written(words: list[str], script: bytes = b"") -> list[str]:
         return lines if words[0] == "view" else answers(script)
 
-    with mock.patch.object(views, "written", written):
+    with mock.patch.object(viewer_scripts, "written", written):
         return tried(views.view_fault, view, [*options])
 
 

@@ -15,6 +15,8 @@ enum Wanted {
     /// To view scripts with what only `view` takes: the files, the trace to start with if there is
     /// one, and whether the history and the trace follow.
     Asks(&'static [&'static str], Option<&'static str>, bool, bool),
+    /// To let viewers that read these files be there at once, in the form of `Asks`.
+    Lives(&'static [&'static str], Option<&'static str>, bool, bool),
     /// To load a trace: the file, and whether the trace of the session follows.
     Loads(&'static str, bool),
     /// A text that begins and goes on so.
@@ -23,6 +25,8 @@ enum Wanted {
     Refused,
     /// More files than there may be viewers.
     TooMany,
+    /// Viewers that are there at once would share a file.
+    Shared,
 }
 
 /// The options of a view.
@@ -32,15 +36,16 @@ fn view<'a>(
     files: &'static [&'static str],
     world: (u8, Ring),
     start: Option<&'static str>,
-    asked: (bool, bool),
+    asked: (bool, bool, bool),
 ) -> Options<'a> {
     Options::View {
         files: Vec::from_slice(alloc, files).expect(rt, "out of memory"),
         actors: world.0,
         ring: world.1,
         start,
-        history: asked.0,
-        trace: asked.1,
+        live: asked.0,
+        history: asked.1,
+        trace: asked.2,
     }
 }
 
@@ -54,11 +59,16 @@ fn are_wanted(rt: &impl Abort, alloc: Global, read: &Options<'_>, wanted: &Wante
             trace: *trace,
         },
         Wanted::Views(files, actors, ring) => {
-            view(rt, alloc, *files, (*actors, *ring), None, (false, false))
+            let asked = (false, false, false);
+            view(rt, alloc, *files, (*actors, *ring), None, asked)
         }
         Wanted::Asks(files, start, history, trace) => {
-            let world = (4, Ring::Four);
-            view(rt, alloc, *files, world, *start, (*history, *trace))
+            let asked = (false, *history, *trace);
+            view(rt, alloc, *files, (4, Ring::Four), *start, asked)
+        }
+        Wanted::Lives(files, start, history, trace) => {
+            let asked = (true, *history, *trace);
+            view(rt, alloc, *files, (4, Ring::Four), *start, asked)
         }
         Wanted::Loads(file, trace) => Options::Load {
             file: *file,
@@ -86,6 +96,7 @@ fn compare(rt: &impl Abort, alloc: Global, words: &[&str], wanted: &Wanted) {
             is_shown(rt, alloc, &error, "error: ", "")
         }
         (Err(OptionsFault::TooManyFiles), Wanted::TooMany) => true,
+        (Err(OptionsFault::SharedFile), Wanted::Shared) => true,
         _ => false,
     };
     assert!(rt; right, "{words:?}");
@@ -172,6 +183,36 @@ const ROWS: &[(&[&str], Wanted)] = &[
     (
         &["lcrqdb", "view", "--start=t", "a"],
         Wanted::Asks(&["a"], Some("t"), false, false),
+    ),
+    // With `--live`, no viewer has the file of another one, or of another one's replies.
+    (
+        &["lcrqdb", "view", "--live", "a"],
+        Wanted::Lives(&["a"], None, false, false),
+    ),
+    (
+        &["lcrqdb", "view", "a", "b", "--history", "--live", "--trace"],
+        Wanted::Lives(&["a", "b"], None, true, true),
+    ),
+    (
+        &["lcrqdb", "view", "a", "--live", "--start=t"],
+        Wanted::Lives(&["a"], Some("t"), false, false),
+    ),
+    (
+        &["lcrqdb", "view", "--live", "a", "b.replies", ".replies"],
+        Wanted::Lives(&["a", "b.replies", ".replies"], None, false, false),
+    ),
+    (&["lcrqdb", "view", "--live", "a", "a"], Wanted::Shared),
+    (
+        &["lcrqdb", "view", "b", "a", "c", "a", "--live"],
+        Wanted::Shared,
+    ),
+    (
+        &["lcrqdb", "view", "--live", "a", "b", "a.replies"],
+        Wanted::Shared,
+    ),
+    (
+        &["lcrqdb", "view", "--live", "b.replies", "a", "b"],
+        Wanted::Shared,
     ),
     // `load` takes a file and one option.
     (
@@ -305,6 +346,9 @@ const MISTAKES: &[&[&str]] = &[
     &["lcrqdb", "view", "a", "--history=yes"],
     &["lcrqdb", "view", "a", "--start", "t", "--ring", "4"],
     &["lcrqdb", "view", "a", "--actors", "4", "--start", "t"],
+    &["lcrqdb", "view", "a", "--live", "--live"],
+    &["lcrqdb", "view", "--live"],
+    &["lcrqdb", "run", "a", "--live"],
     &["lcrqdb", "run", "a", "--history"],
     &["lcrqdb", "load", "a", "--start", "t"],
     &["lcrqdb", "view", "a", "--ring", "2", "--ring", "2"],
@@ -335,6 +379,8 @@ const FILES: &[&str] = &["a"; 64];
 const AFTER_FILES: &[(&[&str], Wanted)] = &[
     (&[], Wanted::Views(FILES, 4, Ring::Four)),
     (&["a"], Wanted::TooMany),
+    (&["--live"], Wanted::Shared),
+    (&["--live", "a"], Wanted::TooMany),
     (&["a", "--ring", "3"], Wanted::Refused),
 ];
 

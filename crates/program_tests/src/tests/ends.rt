@@ -2,11 +2,11 @@
 
 use rd_cell::Refusal;
 use rd_desk::Busy;
-use rd_program::{ProgramFault, show_program_fault};
+use rd_program::{Done, ProgramFault, show_program_fault};
 use rd_script::{ScriptFault, WriteSink};
 use rd_step::Flaw;
 use rd_trace::TraceFault;
-use rd_view::ViewFault;
+use rd_view::{ViewFault, ViewerEnd};
 use std::alloc::Global;
 use std::process::{Abort, ExitCode};
 use test_kit::BrokenWriter;
@@ -15,7 +15,7 @@ use test_kit::BrokenWriter;
 fn ends_with(
     rt: &impl Abort,
     alloc: Global,
-    outcome: Result<u64, ProgramFault>,
+    outcome: Result<Done, ProgramFault>,
     status: ExitCode,
     line: &str,
 ) {
@@ -87,7 +87,39 @@ fn a_fault_has_status_1_and_its_line_and_a_run_that_came_to_its_end_0_and_none(r
     for (fault, line) in FAULTS {
         ends_with(&rt, rt.alloc(), Err(*fault), ExitCode::FAILURE, *line);
     }
-    ends_with(&rt, rt.alloc(), Ok(7), ExitCode::SUCCESS, "");
+    let counted = Ok(Done::Counted(7));
+    ends_with(&rt, rt.alloc(), counted, ExitCode::SUCCESS, "");
+}
+
+/// How viewers end that are there at once, and the lines for those that did not come to the end.
+const VIEWERS: &[(&[ViewerEnd], ExitCode, &str)] = &[
+    (&[ViewerEnd::Ended(0)], ExitCode::SUCCESS, ""),
+    (
+        &[ViewerEnd::Ended(7), ViewerEnd::Ended(9)],
+        ExitCode::SUCCESS,
+        "",
+    ),
+    (
+        &[
+            ViewerEnd::Stopped(ScriptFault::Write),
+            ViewerEnd::Ended(7),
+            ViewerEnd::Stopped(ScriptFault::Read),
+            ViewerEnd::NotStarted,
+            ViewerEnd::Ended(0),
+        ],
+        ExitCode::FAILURE,
+        "lcrqdb: viewer 1: refused 25 Write\n\
+         lcrqdb: viewer 3: refused 24 Read\n\
+         lcrqdb: viewer 4: refused 20 NoMemory\n",
+    ),
+];
+
+#[test]
+fn each_viewer_that_did_not_come_to_the_end_has_its_line(rt: HostRuntime) {
+    for (ends, status, lines) in VIEWERS {
+        let ends = Vec::from_slice(rt.alloc(), *ends).expect(&rt, "out of memory");
+        ends_with(&rt, rt.alloc(), Ok(Done::Lived(ends)), *status, *lines);
+    }
 }
 
 #[test]

@@ -53,6 +53,29 @@ const ENDS: &[(&[&str], usize, u8, &str, &str)] = &[
     (&["lcrqdb", "view"], 2, 1, "", "lcrqdb: refused 24 Read\n"),
     (&["lcrqdb", "view"], 64, 1, "", "lcrqdb: refused 24 Read\n"),
     (&["lcrqdb", "view"], 65, 2, "", "lcrqdb: 1 to 64 files\n"),
+    // Viewers that are there at once: the output has what their history has, and each that could
+    // not open its file has its line.
+    (
+        &["lcrqdb", "view", "--live", "gone"],
+        1,
+        1,
+        "history 0\n",
+        "lcrqdb: viewer 1: refused 24 Read\nlcrqdb: viewer 2: refused 24 Read\n",
+    ),
+    (
+        &["lcrqdb", "view", "--live", "--start"],
+        2,
+        1,
+        "",
+        "lcrqdb: refused 24 Read\n",
+    ),
+    (
+        &["lcrqdb", "view", "--live"],
+        2,
+        2,
+        "",
+        "lcrqdb: no two viewers of --live can share a file\n",
+    ),
 ];
 
 /// Whether a text is this one, or begins so if this one ends with `..`.
@@ -71,7 +94,11 @@ fn ends_with<R: Files + Threads + Wait + Abort + Sync>(
     words: Result<Vec<&str>, OptionsFault>,
     status: u8,
     (output, errors): (&str, &str),
-) {
+)
+where
+    R::File: Send,
+    R::Dir: Send,
+{
     let mut written = Vec::new(alloc);
     let mut told = Vec::new(alloc);
     let ended = run_command_line(
@@ -127,7 +154,11 @@ fn status_with_broken_streams<R: Files + Threads + Wait + Abort + Sync>(
     rt: &R,
     alloc: Global,
     words: &[&str],
-) -> ExitCode {
+) -> ExitCode
+where
+    R::File: Send,
+    R::Dir: Send,
+{
     run_command_line(
         rt,
         alloc,

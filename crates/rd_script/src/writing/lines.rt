@@ -9,10 +9,11 @@ ghost use Rattle.std.specs.Io.KnownBytes.{Appends};
 ghost use Rattle.rd_marks.specs.Events.{as_reply};
 ghost use Rattle.rd_script.specs.Device.{TakesBeginning};
 ghost use Rattle.rd_script.specs.Calls.{numbered_text};
+ghost use Rattle.rd_script.specs.Headings.{viewer_refusal_text};
 ghost use Rattle.rd_script.specs.Puts.{Puts, PutsUpTo};
 ghost use Rattle.rd_script.specs.Replies.{answer_text, answer_words};
 
-use super::numbers::put_number_or_hyphen;
+use super::numbers::{put_number_or_hyphen, put_words_and_number};
 use super::refusals::put_any_refusal;
 use super::replies::{put_event_reply, put_reply};
 use super::texts::{Text, put};
@@ -88,6 +89,17 @@ pub fn set_numbered_answer(text: &mut Text, call: Option<u64>, answer: &LineAnsw
     put_number_or_hyphen(text, call);
     put(text, b" ");
     put_answer(text, answer);
+    end_line(text);
+}
+
+/// Replaces the text by a viewer's number, a colon, a space, and the line of a refusal.
+pub fn set_viewer_refusal(text: &mut Text, viewer: u64, refusal: &AnyRefusal)
+    ensures { text.new.items ≡ viewer_refusal_text viewer refusal.now }
+{
+    text.clear();
+    put_words_and_number(text, b"viewer", viewer);
+    put(text, b": ");
+    put_refusal(text, refusal);
     end_line(text);
 }
 

@@ -48,10 +48,19 @@ fn a_command_line_that_was_refused_memory_is_read_as_ever_the_next_time(rt: Host
         actors,
         ring,
         start: None,
+        live: true,
         history: true,
         trace: false,
     };
-    let words = ["lcrqdb", "view", "a", "b", "--ring=2", "--history"];
+    let words = [
+        "lcrqdb",
+        "view",
+        "a",
+        "b",
+        "--live",
+        "--ring=2",
+        "--history",
+    ];
     come_to(&rt, alloc, &words, view);
 }
 

@@ -34,3 +34,12 @@ returns-clause-ok g c =
     let app = c.in_ok-command.ensures in
     let tells = rw c.in-Some.is at c.in_ok-options.ensures.some in
     GivesOptions-matches _ _ app.0 c.in_ok-matches.matches _ app.1 app.2 c.in_ok-matches.ensures.kinds c.in_ok-matches.ensures.ok.2 tells
+
+pub returns-then-shares_a_file-clause-err : goal.returns-then-shares_a_file-clause-err
+returns-then-shares_a_file-clause-err g c =
+    let app = c.in_ok-command.ensures in
+    let tells = rw c.in-Some.is at c.in_ok-options.ensures.some in (
+      c.in-Some.options,
+      GivesOptions-matches _ _ app.0 c.in_ok-matches.matches _ app.1 app.2 c.in_ok-matches.ensures.kinds c.in_ok-matches.ensures.ok.2 tells,
+      c.shares_a_file.ensures.yes c.if-shares_a_file.true,
+    )

@@ -19,4 +19,4 @@ returns-clause-some c =
     let same = c.in_ok-files.ensures.items in
     let some : 1 ≤ length c.in-Some.files.now = search rules in
     let rest = c.in-Some-start_and_flags.ensures.some in
-    (rw same (files_in_rows c.args.view.now _ c.in-Some.ensures), rw same some, c.in-Some-actors_and_ring.ensures.some, rest.0, rest.1, rest.2)
+    (rw same (files_in_rows c.args.view.now _ c.in-Some.ensures), rw same some, c.in-Some-actors_and_ring.ensures.some, rest.0, rest.1, rest.2, rest.3)
