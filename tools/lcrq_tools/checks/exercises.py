@@ -11,8 +11,8 @@ the page names:
     After line 6 and 63 times lines 7 to 11:     the first 6, and then these 5 again and again
 
 Where a lesson has two scripts, `of the first script` or `of the second script` stands before the
-colon. The script of one of two viewers is run alone. A table `| In place of | Write |` before them
-changes the text of the lesson's trace for all tables after it.
+colon. A table `| In place of | Write |` before them changes the text of the lesson's trace for all
+tables after it.
 
 Each lesson has such a table. The status is 1 if a reply differs, if a table has no such line before
 it, or such a line no table. Only Python's standard library is used.

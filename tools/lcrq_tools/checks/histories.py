@@ -13,7 +13,7 @@ from collections.abc import Iterator
 from dataclasses import dataclass
 from pathlib import Path
 
-from lcrq_tools import program
+from lcrq_tools import history, program
 from lcrq_tools.faults import Fault
 from lcrq_tools.page import run_rows, run_states
 
@@ -29,7 +29,7 @@ OVER_A_TRACE, IS_LEFT_OUT = 0.3, 0.8  # how likely a history has a start with st
 
 @dataclass(frozen=True)
 class RandomHistory:
-    """A history that was made at random."""
+    """A history that was made at random, or one in its form."""
 
     viewers: int
     calls: list[Call]
@@ -78,11 +78,17 @@ def asked_of(chance: random.Random, folder: Path, count: int, given: argparse.Na
     for line in lines_of(chance, run, count):
         is_owned = is_apart and program.MAKES_A_STEP.match(line.encode())
         calls.append((owner_of(line, viewers) if is_owned else chance.randint(1, viewers), line))
-    history = folder / "random.history"
+    file = folder / "random.history"
     form = chance.choice(["whole", "traced", "alone"])
-    history.write_text(text_of(run, viewers, calls, form), encoding="ascii")
-    words = ["--history", str(history), *options, "--refused", "--program", given.program]
+    file.write_text(text_of(run, viewers, calls, form), encoding="ascii")
+    words = ["--history", str(file), *options, "--refused", "--program", given.program]
     return RandomHistory(viewers, calls, is_apart, words)
+
+
+def stored(name: str) -> RandomHistory:
+    """A stored history in the form of one at random, with no command line."""
+    asked = history.read(name)
+    return RandomHistory(max(asked.viewers), [*zip(asked.viewers, asked.lines)], False, [])
 
 
 def world_of(chance: random.Random, folder: Path, given: argparse.Namespace) -> tuple[list[str], list[str]]:

@@ -3,7 +3,7 @@ their pages.
 
     python3 tools/check.py lessons [--program P]
 
-A page of `examples/` has its script beside the replies in a table, with words in a third column,
+A page of `examples/` has its script beside the replies in a table, with words in the last column,
 which are for readers alone. It has just the tables and traces that its scripts give, in this order,
 byte for byte. A lesson runs over a fresh world, with the defaults, unless its page has one of these
 lines:
@@ -11,11 +11,16 @@ lines:
     Run with: --ring 2         with these options
     Run over: `NAME.trace`     over the trace of the lesson's name; the page may show it before its table
     Run over two starts.       script and trace end in -1 and -2: two traces, each with its table
-    Run by two viewers.        the scripts end in -1 and -2; letters stand for the numbers that another
-                               order of the viewers' calls would change
+    Run live by Anna, viewer 1, and Ben, viewer 2.
+                               its table says who types which line, also one that is no command
+
+What viewers type live goes into named pipes, in the order of the table: each line has its reply before
+the next one is typed. The history that the program then writes is `NAME.history`, its lines are
+`NAME.script`, and one run of that script has to reply the same.
 
 The guide has the tables of guide-1 to guide-7 with traces between them, and a table of mistakes in
-a trace, each with the line that `load` writes to standard error. Each session, of the README, the
+a trace, each with the line that `load` writes to standard error. In its table of two viewers, letters
+stand for the numbers that another order of their calls would change. Each session, of the README, the
 manual or the recipes, has a report beside its script, and may run over the trace of its name.
 
 Each row runs with each build of the program that is there: that of LLVM and, beside it, that of
@@ -24,11 +29,14 @@ library is used.
 """
 
 import functools
+import os
 import re
 import tempfile
-from collections.abc import Iterable, Iterator
+from collections.abc import Iterable, Iterator, Sequence
+from pathlib import Path
 
-from lcrq_tools import program
+from lcrq_tools import history, program
+from lcrq_tools.clients import Live, finish, replies_of, talk
 from lcrq_tools.program import EXAMPLES, Broken, Ended, lines_of
 
 # The lessons, in the order of reading: each has a page and a script of this name.
@@ -72,13 +80,17 @@ MISTAKES = [
     ('"events": []', '"events": [["enq", 1, 7]]'),
 ]
 
-# What a page has: how a table of lines and replies, one of mistakes, and a trace begin.
+# What a page has: how a table of lines and replies, one of what viewers type live, one of mistakes, and
+# a trace begin.
 HEADINGS = "| Line | Reply | What happens |"
+LIVE_HEADINGS = f"| Who {HEADINGS}"
 MISTAKES_HEAD = "\n| In place of | Somebody writes | `load` answers |\n|---|---|---|\n"
 TRACE_HEAD = "```json\n"
-ROW_BEGINS = "| `"  # below the head of the first
+ROW = re.compile(r"\| (?:\w+ \| )?`")  # how one begins below the head of the first two
+LIVE_ROW = re.compile(r"^\| (\w+) \| `([^`]*)` \| `([^`]*)` \|", re.MULTILINE)  # who types what, and the reply
 OPTIONS = re.compile(r"^Run with: (.+)$", re.MULTILINE)
-OVER_TRACE, TWO_STARTS, TWO_VIEWERS = "\nRun over: `{}.trace`\n", "\nRun over two starts.\n", "\nRun by two viewers.\n"
+OVER_TRACE, TWO_STARTS = "\nRun over: `{}.trace`\n", "\nRun over two starts.\n"
+LIVE = re.compile(r"^Run live by (\w+), viewer 1, and (\w+), viewer 2\.$", re.MULTILINE)
 
 
 def text_of(name: str) -> str:
@@ -107,6 +119,25 @@ def loaded(built: str, trace: str, script: str = "") -> Ended:
         file.write(trace.encode())
         file.flush()
         return program.run([built, "load", file.name], script.encode())
+
+
+def typed_in_turn(built: str, names: Sequence[str], typed: Sequence[tuple[str, str]]) -> tuple[list[str], str]:
+    """The replies to lines that viewers of these names type, each a name and a line, and the history that
+    the program then writes. Each line has its reply before the next one is typed."""
+    replies = []
+    with tempfile.TemporaryDirectory() as folder:
+        files = [Path(folder) / name for name in names]
+        for pipe in (*files, *map(replies_of, files)):
+            os.mkfifo(pipe)
+        with Live([built, "view", "--live", *map(str, files), "--history"]) as live:
+            clients = {}
+            for name, file in zip(names, files):
+                clients[name] = live.client(name, file, [line for who, line in typed if who == name])
+            for who, _ in typed:
+                talk([clients[who]], len(clients[who].replies) + 1)
+                replies.append(clients[who].replies[-1])
+            finish([*clients.values()])
+            return replies, report_of(live.end())
 
 
 # ---- Tables and traces ---------------------------------------------------------------------------
@@ -155,6 +186,24 @@ def table_of_viewers(built: str, name: str) -> str:
     return table_of(f"{lines}the end\n", [masked(reply) for reply in replies])
 
 
+def table_at_terminals(built: str, name: str, names: Sequence[str], page: str) -> str:
+    """The table of what viewers of these names type live, as the page has it: who types which line, and
+    the reply at that viewer's terminal."""
+    typed = [(who, line) for who, line, _ in LIVE_ROW.findall(page)]
+    if {who for who, _ in typed} != {*names}:
+        raise Broken(f"its table is not of {' and '.join(names)}")
+    replies, written = typed_in_turn(built, names, typed)
+    script = history.history_of("the view", written).script().decode("ascii")
+    for file, text in ((f"{name}.history", written), (f"{name}.script", script)):
+        if text_of(file) != text:
+            raise Broken(f"{file} has other calls than its table")
+    answers = enumerate(lines_of(report(built, "run", f"{name}.script")), 1)
+    if [f"{number} {answer}" for number, answer in answers] != [it for it in replies if not it.startswith("- ")]:
+        raise Broken(f"a run of {name}.script has other replies than the viewers")
+    rows = "".join(f"| {who} | `{line}` | `{reply}` |\n" for (who, line), reply in zip(typed, replies))
+    return f"\n{LIVE_HEADINGS}\n|---|---|---|---|\n{rows}\n"
+
+
 def table_of_mistakes(built: str, trace: str) -> str:
     """The table of what `load` answers to each mistake in a trace, between two empty lines. A mistake
     has no row if the trace doesn't have its right text or still loads."""
@@ -183,8 +232,8 @@ def lesson_blocks(built: str, name: str, page: str) -> Iterable[str]:
         return [*over_trace(built, f"{name}-1"), *over_trace(built, f"{name}-2")]
     if OVER_TRACE.format(name) in page:
         return over_trace(built, name, TRACE_HEAD in page)
-    if TWO_VIEWERS in page:
-        return [table_of_viewers(built, name)]
+    if live := LIVE.search(page):
+        return [table_at_terminals(built, name, live.groups(), page)]
     script, options = f"{name}.script", OPTIONS.search(page)
     replies = report(built, "run", script, *(options[1].split() if options else []))
     return [table_of(text_of(script), lines_of(replies))]
@@ -207,12 +256,12 @@ def guide_blocks(built: str) -> Iterator[str]:
 
 
 def without_words(page: str) -> str:
-    """A page without the third column of its tables of lines and replies. A row that doesn't have
-    three cells becomes one that no such table has."""
+    """A page without the last column of its tables of lines and replies. A row that has more or fewer
+    cells than its head becomes one that no such table has."""
     bare, is_table = "", False
     for line in lines_of(page):
-        is_table = line == HEADINGS or is_table and line.startswith("|")
-        is_row = is_table and line.startswith(ROW_BEGINS)
+        is_table = line in (HEADINGS, LIVE_HEADINGS) or is_table and line.startswith("|")
+        is_row = is_table and ROW.match(line)
         bare += (re.sub(r"\|[^|]*\|$", "|", line) if is_row else line) + "\n"
     return bare
 

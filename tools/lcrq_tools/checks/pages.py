@@ -15,10 +15,11 @@ tables is in the help, and each keyword in its table of replies and in the rows 
 The session of the README and the examples of the manual are in `examples/`, each a script beside
 its report, and `tools/check.py lessons` compares what the one is answered with the other. This
 compares the pages with these files. A view, and the line of a trace, are in the stored text of
-`tools/check.py rehearsals`, and the scripts of a view are in `examples/` too, byte for byte. A block
-that shows a reply and is none of these is a fault, and so is a line of the pseudo-code of
-docs/MODEL.md that `model.py` can't read. Each block and each such script prints one line; the status
-is 1 if any of them differs. Only Python's standard library is used.
+`tools/check.py rehearsals`, and the scripts of a view are in `examples/` too, byte for byte. What two
+people type and see live is how the table of lesson 12 begins. A block that shows a reply and is none
+of these is a fault, and so is a line of the pseudo-code of docs/MODEL.md that `model.py` can't read.
+Each block and each such script prints one line; the status is 1 if any of them differs. Only Python's
+standard library is used.
 """
 
 import collections
@@ -28,7 +29,7 @@ from collections.abc import Iterable, Iterator
 from pathlib import Path
 
 from lcrq_tools import manual, model
-from lcrq_tools.checks import command_rows, rehearsals
+from lcrq_tools.checks import command_rows, lessons, rehearsals
 from lcrq_tools.faults import Parser
 from lcrq_tools.look import contracts, definitions
 from lcrq_tools.named import named_in
@@ -36,6 +37,7 @@ from lcrq_tools.program import CRATES, EXAMPLES, TOP, tried
 
 BLOCK = re.compile(r"^( *)```(\w+)\n(.*?)^ *```$", re.MULTILINE | re.DOTALL)
 REPLY = re.compile(rf"(?:{'|'.join(sorted(manual.REPLIES))}|viewer|history)\b.*")
+NUMBERED = re.compile(rf" *(?:\d+|-) {REPLY.pattern}")  # a reply to a viewer of `view --live`
 OUTPUT = "  output|"  # before each line of standard output in the stored text of `rehearsals`
 
 Rows = list[list[str]]  # each a line and its reply
@@ -47,6 +49,8 @@ PAGES: dict[str, list[Example]] = {
     "docs/MANUAL.md": [("manual-1", None), ("manual-2", None), ("manual-3", "manual-1"), ("manual-4", None)],
     "docs/RECIPES.md": [("poised", None)],
 }
+
+LIVE = "12-two-viewers"  # the lesson with a table of what people type live
 
 # The scripts of `rehearsals` that the manual names, for whoever types its commands in `examples/`.
 COPIED = ["questions.script", "question.script"]
@@ -90,6 +94,16 @@ def is_rehearsed(lines: list[str]) -> str:
     return "" if wanted in stored else "it is not in the stored text of rehearsals"
 
 
+def is_live(lines: list[str]) -> str:
+    """What is wrong with a block of what people type and see live, each below their name, or nothing, where
+    this is how the table of a lesson begins."""
+    names = {name.start(): name[0] for name in re.finditer(r"\w+", lines[0])}
+    shown = [(names.get(len(line) - len(line.lstrip())), line.strip()) for line in lines[1:] if line]
+    rows = lessons.LIVE_ROW.findall((EXAMPLES / f"{LIVE}.md").read_text(encoding="utf-8"))
+    typed = [(who, text) for who, *texts in rows for text in texts]
+    return "" if shown == typed[:len(shown)] else f"it is not the beginning of the table of {LIVE}.md"
+
+
 def value_of(text: str) -> str | None:
     """A text of JSON in one spelling: in Python itself, 1 equals 1.0 and true. None of any other text."""
     try:
@@ -130,6 +144,8 @@ def checks_of(name: str, examples: list[Example]) -> Iterator[tuple[str, str]]:
             yield f"{name}: {example_name}", tried(is_example, rows, example_name, before)
         elif rows:
             yield f"{name}: {lines[0]}", "it is none of the examples"
+        elif any(NUMBERED.fullmatch(line) for line in lines):
+            yield f"{name}: {lines[0]}", tried(is_live, lines)
         elif lines[0].startswith('{"version"'):
             yield f"{name}: a trace by hand", tried(is_a_trace, lines)
         elif lines[0].startswith('{"') or any(REPLY.fullmatch(line) for line in lines):

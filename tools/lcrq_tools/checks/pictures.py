@@ -40,6 +40,7 @@ GUIDE = f"{EXAMPLES}/guide.md"
 CLOSERS = f"{EXAMPLES}/06-starvation-closes-ring.md"
 PORT_LESSON = "16-a-port-beside-the-model"
 PORTS = f"{EXAMPLES}/{PORT_LESSON}.md"
+HISTORY = ".history"  # how the name of a file ends that has one
 RUNS, CROWDED_RUNS = 200, 12  # how many runs are drawn at random: short ones, and longer ones
 TRIED = 60  # of how many of the short ones the last moment is drawn too
 HISTORIES, LINES = 40, 50  # how many histories are drawn at random, and the lines of each
@@ -62,7 +63,8 @@ PICTURES = [
 ]
 
 # Those of the lessons: the lesson, which of its pictures it is where it has two, and the options.
-# Page, picture and script have the lesson's name, and so has the trace, which TRACE stands for.
+# Page, picture and script have the lesson's name, and so has the trace, which TRACE stands for. Where a
+# history has this name, the picture is drawn from that.
 LESSONS = [
     ("01-one-enqueue-and-back", "", "--undo 4"),
     ("02-empty-dequeue-repairs-tail", "", "--undo 11"),
@@ -75,8 +77,7 @@ LESSONS = [
     ("09-bookmarks-and-same", "", "--undo 7"),
     ("10-array-queue-livelock", "", "--lines 16 --undo 15"),
     ("11-who-wrote-this", "", "--trace TRACE --undo 14"),
-    ("12-two-viewers", "-1", ""),
-    ("12-two-viewers", "-2", ""),
+    ("12-two-viewers", "", "--undo 8"),
     ("13-a-start-of-ones-own", "", "--trace TRACE --lines 20 --undo 3"),
     ("14-what-the-safe-bit-prevents", "-1", "--trace TRACE --lines 20 --undo 7"),
     ("14-what-the-safe-bit-prevents", "-2", "--trace TRACE --undo 13"),
@@ -111,10 +112,16 @@ def path_of(name: str) -> Path:
     return TOP / (name if "/" in name else EXAMPLES / name)
 
 
-def arguments_of(tool: ModuleType, script: str, options: str, program_path: str) -> argparse.Namespace:
-    """The command line of a picture or a moment."""
+def source_of(name: str) -> str:
+    """The file of this name from which a figure is drawn: a history, if there is one, or else a script."""
+    return f"{name}{HISTORY if path_of(f'{name}{HISTORY}').is_file() else '.script'}"
+
+
+def arguments_of(tool: ModuleType, source: str, options: str, program_path: str) -> argparse.Namespace:
+    """The command line of a picture or a moment, which is drawn from a script or a history."""
     words = [str(path_of(word)) if word.endswith(".trace") else word for word in options.split()]
-    given = [str(path_of(script)), *words, "--refused", "--program", program_path]
+    words += ["--history"] if source.endswith(HISTORY) else []
+    given = [*words, str(path_of(source)), "--refused", "--program", program_path]
     arguments: argparse.Namespace = tool.parser().parse_args(given)
     return arguments
 
@@ -132,6 +139,14 @@ def moment_fault(svg: str, arguments: argparse.Namespace) -> str:
     return runs.labels_fault(drawn) or moments.faults_of(svg, arguments)
 
 
+def askers_of(arguments: argparse.Namespace) -> list[int]:
+    """The viewers who asked the steps of a history; nobody, if a script is drawn."""
+    if not arguments.history:
+        return []
+    asked = histories.stored(arguments.history)
+    return histories.wanted_of(arguments, asked, len(asked.calls))
+
+
 def stored_fault(
     tool: ModuleType, page: str, name: str, script: str, options: str, given: argparse.Namespace
 ) -> str:
@@ -144,7 +159,7 @@ def stored_fault(
         return "it is not stored as it is drawn: --store stores it"
     if f"]({link_of(page, name)})" not in (TOP / page).read_text(encoding="utf-8"):
         return f"{page} does not show it"
-    return runs.fault_of(svg, arguments) if tool is picture else moment_fault(svg, arguments)
+    return runs.fault_of(svg, arguments, askers_of(arguments)) if tool is picture else moment_fault(svg, arguments)
 
 
 def row_of_lesson(row: tuple[str, str, str], ending: str) -> tuple[str, str, str, str]:
@@ -152,7 +167,7 @@ def row_of_lesson(row: tuple[str, str, str], ending: str) -> tuple[str, str, str
     lesson, which, options = row
     name = lesson + which
     options = options.replace("TRACE", f"{name}.trace")
-    return f"{EXAMPLES}/{lesson}.md", f"{name}{ending}.svg", f"{name}.script", options
+    return f"{EXAMPLES}/{lesson}.md", f"{name}{ending}.svg", source_of(name), options
 
 
 def pictures() -> Iterator[Drawing]:

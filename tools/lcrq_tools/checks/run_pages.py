@@ -53,14 +53,14 @@ def world_of(name: str, options: str) -> str:
 
 
 def pages() -> dict[str, str]:
-    """The scripts that have a page, and of each the options of its world. Those of viewers have none."""
+    """The scripts and histories that have a page, and of each the options of its world."""
     rows = [(lesson + which, world_of(lesson + which, options)) for lesson, which, options in pictures.LESSONS]
-    return dict([*OTHERS, *(row for row in rows if "viewers" not in row[0])])
+    return dict([*OTHERS, *rows])
 
 
 def arguments_of(name: str, options: str, program_path: str) -> argparse.Namespace:
     """The command line of an example's page."""
-    return pictures.arguments_of(page, f"{name}.script", options, program_path)
+    return pictures.arguments_of(page, pictures.source_of(name), options, program_path)
 
 
 def states_in(text: str) -> tuple[Data, list[State]]:
@@ -276,6 +276,11 @@ def askers_fault(text: str, wanted: dict[int, int]) -> str:
     return "" if named == [(str(it),) * 3 for it in sorted(used - {0})] else f"the viewers {used} are named as {named}"
 
 
+def viewers_fault(text: str, arguments: argparse.Namespace, asked: histories.RandomHistory) -> str:
+    """What is wrong with the viewers of the lines and steps of a history's page, or nothing."""
+    return lines_fault(text, asked) or askers_fault(text, askers_wanted(text, arguments, asked))
+
+
 def history_fault(seed: int, folder: Path, given: argparse.Namespace) -> str:
     """What is wrong with the page of one history at random, or nothing. Each third one is of a part of it."""
     chance = random.Random(seed)
@@ -283,11 +288,7 @@ def history_fault(seed: int, folder: Path, given: argparse.Namespace) -> str:
     part = [] if seed % 3 else ["--lines", f"{chance.randint(2, 30)}:{chance.randint(31, STEPS)}"]
     arguments = page.parser().parse_args([*asked.words, *part])
     text = page.page_of(arguments)[0]
-    return (
-        lines_fault(text, asked)
-        or askers_fault(text, askers_wanted(text, arguments, asked))
-        or state_fault(text, arguments, EACH)
-    )
+    return viewers_fault(text, arguments, asked) or state_fault(text, arguments, EACH)
 
 
 # ---- The checks -----------------------------------------------------------------------------------
@@ -298,7 +299,8 @@ def page_fault(arguments: argparse.Namespace) -> str:
     text = page.page_of(arguments)[0]
     if text != page.page_of(arguments)[0]:
         return "it has other bytes when it is made again"
-    return state_fault(text, arguments, 1)
+    asked = histories.stored(arguments.history) if arguments.history else None
+    return (viewers_fault(text, arguments, asked) if asked else "") or state_fault(text, arguments, 1)
 
 
 def random_script(chance: random.Random) -> str:

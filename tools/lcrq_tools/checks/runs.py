@@ -11,6 +11,7 @@ import itertools
 import json
 import re
 import tempfile
+from collections.abc import Sequence
 from dataclasses import dataclass, field
 from pathlib import Path
 from xml.etree import ElementTree
@@ -468,7 +469,10 @@ def faults_of(svg: str, run: Run, session: figure.Session) -> str:
     )
 
 
-def fault_of(svg: str, arguments: argparse.Namespace) -> str:
-    """The first thing that is wrong with a picture, by a session of its command line, or nothing."""
+def fault_of(svg: str, arguments: argparse.Namespace, viewers: Sequence[int] = ()) -> str:
+    """The first thing that is wrong with a picture, by a session of its command line, or nothing. These
+    viewers asked its steps, if it is of a history."""
     session = figure.Session(arguments)
-    return faults_of(svg, run_of(arguments, session, picture.records_of(session)), session)
+    run = run_of(arguments, session, picture.records_of(session))
+    run.viewers = [*viewers]
+    return faults_of(svg, run, session)

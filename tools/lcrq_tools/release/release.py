@@ -131,10 +131,11 @@ def report_of(built: str, run: Run, folder: Path) -> bytes:
 
 
 def run_page_of(built: str, run: Run, folder: Path) -> bytes:
-    """The page of a run. A script of a page may have refused lines."""
-    out = folder / "page.html"
+    """The page of a run, or of the history whose lines a script has. Some of its lines may be refused."""
+    out, history = folder / "page.html", run.script.with_suffix(".history")
     over = ["--trace", str(folder / f"{run.trace}.trace")] if run.trace else list(run.options)
-    words = [sys.executable, str(TOOLS / "page.py"), str(run.script), *over, "--refused"]
+    source = ["--history", str(history)] if history.is_file() else [str(run.script)]
+    words = [sys.executable, str(TOOLS / "page.py"), *source, *over, "--refused"]
     output_of([*words, "--program", built, "-o", str(out)])
     return out.read_bytes()
 

@@ -1,6 +1,7 @@
 """What `tools/check.py lessons` compares of a page."""
 
 import unittest
+from unittest import mock
 
 from lcrq_tools.checks import lessons
 from lcrq_tools.program import EXAMPLES, Broken
@@ -17,6 +18,29 @@ PAGE = """# A page
 | `len` | `at 3 0` | stays |
 """
 TRACE = lessons.trace_block('{"version": 2}\n')
+NAMES = ("Anna", "Ben")
+LIVE = f"""
+{lessons.LIVE_HEADINGS}
+|---|---|---|---|
+| Anna | `enq 1 7` | `1 ok 1` |
+| Ben | `enq` | `- refused 22 BadLine` |
+| Ben | `undo` | `2 at 0 1` |
+
+"""
+FILES = {"a.history": "history 2\n1 enq 1 7\n2 undo\n", "a.script": "enq 1 7\nundo\n"}
+
+
+def live_table(replies: str = "ok 1\nat 0 1\n", page: str = LIVE, names: tuple[str, ...] = NAMES, **files: str) -> str:
+    """The table of what viewers of these names type on a page, where a run of the script replies so, and
+    where these are other texts of stored files, by their kind."""
+    live = ["1 ok 1", "- refused 22 BadLine", "2 at 0 1"], FILES["a.history"]
+    stored = FILES | {f"a.{kind}": text for kind, text in files.items()}
+    with (
+        mock.patch.object(lessons, "typed_in_turn", return_value=live),
+        mock.patch.object(lessons, "report", return_value=replies),
+        mock.patch.object(lessons, "text_of", stored.__getitem__),
+    ):
+        return lessons.table_at_terminals("lcrqdb", "a", names, page)
 
 
 class Blocks(unittest.TestCase):
@@ -41,9 +65,36 @@ class Blocks(unittest.TestCase):
             self.assertEqual(lessons.masked(reply), wanted)
 
     def test_a_lesson_of_two_scripts_is_not_run_alone(self) -> None:
-        for line in ("Run over two starts.", "Run by two viewers."):
-            with self.subTest(line), self.assertRaisesRegex(OSError, "nowhere-1"):
-                [*lessons.lesson_blocks("/bin/true", "nowhere", f"\n{line}\n")]
+        with self.assertRaisesRegex(OSError, "nowhere-1"):
+            [*lessons.lesson_blocks("/bin/true", "nowhere", "\nRun over two starts.\n")]
+
+
+class Live(unittest.TestCase):
+    """The table of what people type live."""
+
+    def test_it_says_who_types_which_line(self) -> None:
+        self.assertEqual(live_table(), LIVE)
+        self.assertEqual(live_table(page=LIVE.replace("2 at 0 1", "3 at 0 1")), LIVE)
+
+    def test_a_person_without_a_line_is_a_fault(self) -> None:
+        for names in (("Anna",), ("Anna", "Ben", "Cleo")):
+            with self.subTest(names), self.assertRaisesRegex(Broken, "^its table is not of Anna"):
+                live_table(names=names)
+
+    def test_its_calls_are_stored(self) -> None:
+        with self.assertRaisesRegex(Broken, "^a.history has other calls than its table$"):
+            live_table(history="history 2\n2 enq 1 7\n2 undo\n")
+        with self.assertRaisesRegex(Broken, "^a.script has other calls than its table$"):
+            live_table(script="enq 1 7\n")
+
+    def test_one_run_replies_as_the_viewers_had_it(self) -> None:
+        for replies in ("ok 1\n", "ok 1\nat 1 0\n"):
+            with self.subTest(replies), self.assertRaisesRegex(Broken, "^a run of a.script has other replies"):
+                live_table(replies)
+
+    def test_the_last_column_of_the_table_is_left_out(self) -> None:
+        page = LIVE.replace("1` |\n", "1` | a call |\n").replace("Line` |\n", "Line` | no call |\n")
+        self.assertEqual(lessons.without_words(page), LIVE)
 
 
 class Pages(unittest.TestCase):

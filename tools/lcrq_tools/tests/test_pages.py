@@ -22,6 +22,15 @@ class Blocks(unittest.TestCase):
         self.assertIsNone(pages.rows_of(["go 1    done 3"]))
         self.assertIsNone(pages.rows_of(["go 1"]))
 
+    def test_what_people_type_live_is_below_their_names(self) -> None:
+        block = ["Anna      Ben", "", "enq 1 7", "1 ok 1", "go 1", "2 ok 2", "          deq 2", "          3 ok 3"]
+        self.assertEqual(pages.is_live(block), "")
+        self.assertTrue(pages.NUMBERED.fullmatch(block[-1]) and pages.NUMBERED.fullmatch("- refused 22 BadLine"))
+        other = "it is not the beginning of the table of 12-two-viewers.md"
+        for wrong in ("deq 2", "         deq 2", "          deq 3"):
+            with self.subTest(wrong):
+                self.assertEqual(pages.is_live([*block[:6], wrong, *block[7:]]), other)
+
     def test_a_trace_is_compared_by_its_value(self) -> None:
         self.assertEqual(pages.value_of('{"b": [1], "a": 2}'), pages.value_of('{"a":2,"b":[1]}'))
         self.assertNotEqual(pages.value_of("[1]"), pages.value_of("[true]"))
