@@ -363,6 +363,16 @@ def spread_of(values: Sequence[float]) -> tuple[float, float, float]:
 # ---- Checks --------------------------------------------------------------------------------------
 
 
+class Skipped(str):
+    """In the place of what is wrong: the names of what isn't here, so that the check didn't run. Without a
+    name nothing is missing, and nothing is wrong."""
+
+
+def missing_of(tools: Iterable[str]) -> str:
+    """The names of these programs that aren't here, or nothing."""
+    return ", ".join(name for name in tools if not shutil.which(name))
+
+
 def tried(check: Callable[Given, str], *given: Given.args, **named: Given.kwargs) -> str:
     """What a check finds wrong, or nothing; what it can't read or run is wrong too."""
     try:
@@ -393,12 +403,24 @@ def run_rows(about: str | None, example: str, rows: Rows) -> int:
     return status
 
 
+def line_of(name: str, fault: str) -> str:
+    """The line of a check."""
+    if not fault:
+        return f"ok    {name}"
+    return f"skipped: {fault}: {name}" if isinstance(fault, Skipped) else f"WRONG {name}: {fault}"
+
+
 def print_checks(checks: Iterable[tuple[str, str]]) -> int:
-    """Prints each check, a name and what is wrong or nothing; returns the exit status."""
-    count, wrong = 0, 0
+    """Prints each check, a name and what is wrong or nothing, and how many there are of each kind; returns the
+    exit status. A run in which all checks are skipped has shown nothing, so its status is 1 too."""
+    right, wrong, skipped = 0, 0, 0
+    missing: dict[str, None] = {}  # in the order in which they are named
     for name, fault in checks:
-        count += 1
-        wrong += bool(fault)
-        print(f"WRONG {name}: {fault}" if fault else f"ok    {name}", flush=True)
-    print(f"{count - wrong} right, {wrong} wrong")
-    return 1 if wrong else 0
+        print(line_of(name, fault), flush=True)
+        if fault and isinstance(fault, Skipped):
+            skipped += 1
+            missing |= dict.fromkeys(fault.split(", "))
+        else:
+            right, wrong = right + (not fault), wrong + bool(fault)
+    print(f"{right} right, {wrong} wrong" + (f", {skipped} skipped: {', '.join(missing)}" if skipped else ""))
+    return 1 if wrong or skipped and not right else 0

@@ -13,7 +13,8 @@ moment; and who asked the line and each step with the history. At widths of 400,
 1,900 pixels no text may be cut off or overlap another one, and no part may change its size along the
 run; the browser may log no error. A handout has the queue at each bookmark, or at the end. On a run of
 400 lines, which has the name `long`, a key has to be answered within 50 ms, and its page stays below 1 MB.
-Each check prints a line; the status is 1 if one fails, or if the browser is missing.
+Each check prints a line; the status is 1 if one fails. Where the browser is missing, each line says
+`skipped`, and the status is 1 too.
 """
 
 import argparse
@@ -28,7 +29,7 @@ from typing import Any
 
 from lcrq_tools import dependence, model, program
 from lcrq_tools.checks import histories, run_pages, shown
-from lcrq_tools.faults import Fault, Parser
+from lcrq_tools.faults import Parser
 from lcrq_tools.page import page
 
 try:
@@ -42,6 +43,7 @@ except ImportError:
     HAS_SELENIUM = False
 
 LONG, VIEWERS = "long", "viewers"
+OF_LONG = "a run of 400 lines"  # what its check is called
 LINES = 40  # of the history of viewers
 WIDTHS = (400, 1000, 1900)  # pixels: a phone, a window, a beamer
 HEIGHT = 1000
@@ -257,18 +259,39 @@ def arguments_of(name: str, options: str, folder: Path, given: argparse.Namespac
     return page.parser().parse_args(histories.asked_of(random.Random(1), folder, LINES, given).words)
 
 
+def chosen(given: argparse.Namespace) -> list[tuple[str, str]]:
+    """The pages that are opened, but for the long one, each with the options of its run."""
+    every = [*run_pages.pages().items(), (VIEWERS, "")]
+    return [row for row in every if not given.names or row[0] in given.names]
+
+
+def names_of(name: str) -> tuple[str, str]:
+    """What the two checks of a page are called."""
+    return f"{name}, by all keys", f"{name}, at {len(WIDTHS)} widths"
+
+
+def has_long(given: argparse.Namespace) -> bool:
+    """Whether the page of the long run is opened."""
+    return not given.names or LONG in given.names
+
+
 def checks(browser: Browser, folder: Path, given: argparse.Namespace) -> Iterator[tuple[str, str]]:
     """The checks, each a name and what is wrong, or nothing."""
-    for name, options in [*run_pages.pages().items(), (VIEWERS, "")]:
-        if given.names and name not in given.names:
-            continue
+    for name, options in chosen(given):
         arguments, path = arguments_of(name, options, folder, given), folder / f"{name}.html"
         path.write_text(page.page_of(arguments)[0], encoding="utf-8")
         walk = Walk(browser, path, arguments)
-        yield f"{name}, by all keys", walk.keys_fault()
-        yield f"{name}, at {len(WIDTHS)} widths", walk.layout_fault()
-    if not given.names or LONG in given.names:
-        yield "a run of 400 lines", long_fault(browser, folder, given)
+        keys, widths = names_of(name)
+        yield keys, walk.keys_fault()
+        yield widths, walk.layout_fault()
+    if has_long(given):
+        yield OF_LONG, long_fault(browser, folder, given)
+
+
+def skipped(given: argparse.Namespace, missing: str) -> Iterator[tuple[str, str]]:
+    """The same checks, where this is missing."""
+    names = [check for name, _ in chosen(given) for check in names_of(name)]
+    yield from ((name, program.Skipped(missing)) for name in [*names, *[OF_LONG] * has_long(given)])
 
 
 def main() -> int:
@@ -278,11 +301,9 @@ def main() -> int:
     parser.add_argument("names", nargs="*", metavar="NAME", help=about)
     program.add_program(parser)
     given = parser.parse_args()
-    missing = [name for name in ("chromium", "chromedriver") if not shutil.which(name)]
+    missing = program.missing_of(("chromium", "chromedriver"))
     if missing or not HAS_SELENIUM:
-        lacks = ", ".join([*missing, *([] if HAS_SELENIUM else ["selenium"])])
-        wanted = "Debian's chromium, chromium-driver and python3-selenium"
-        raise Fault(f"not run: {lacks} not found; it needs {wanted}")
+        return program.print_checks(skipped(given, missing if HAS_SELENIUM else f"{missing}, selenium".lstrip(", ")))
     browser = Browser()
     try:
         with tempfile.TemporaryDirectory() as folder:

@@ -33,7 +33,7 @@ from lcrq_tools.checks import command_rows, lessons, rehearsals
 from lcrq_tools.faults import Parser
 from lcrq_tools.look import contracts, definitions
 from lcrq_tools.named import named_in
-from lcrq_tools.program import CRATES, EXAMPLES, TOP, tried
+from lcrq_tools.program import CRATES, EXAMPLES, TOP, line_of, tried
 
 BLOCK = re.compile(r"^( *)```(\w+)\n(.*?)^ *```$", re.MULTILINE | re.DOTALL)
 REPLY = re.compile(rf"(?:{'|'.join(sorted(manual.REPLIES))}|viewer|history)\b.*")
@@ -168,7 +168,7 @@ def check_blocks() -> int:
     wrong = 0
     for check, fault in all_checks():
         wrong += bool(fault)
-        print(f"WRONG {check}: {fault}" if fault else f"ok    {check}")
+        print(line_of(check, fault))
     return 1 if wrong else 0
 
 

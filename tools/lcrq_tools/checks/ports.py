@@ -3,8 +3,8 @@ each of its bugs, and lets that tool find what is changed in logs that agree.
 
     python3 tools/check.py ports [--program P]
 
-The gate runs it, over the program that `rt ci` leaves. Where `cc` or `make` is missing, what needs
-them is skipped, and a line says so.
+The gate runs it, over the program that `rt ci` leaves. Where `cc` or `make` is missing, a line for each
+kind of run that needs them says `skipped`.
 
 - 60 runs of the port, over rings of 2, 4 and 8, in an order that a seed draws or by free threads,
   agree with the model; they make each line of the pseudo-code, and each CAS wins and loses.
@@ -168,15 +168,21 @@ def lesson_runs(bench: Bench) -> Iterator[tuple[str, str]]:
 # ---- All -----------------------------------------------------------------------------------------
 
 
-def built(folder: Path) -> str:
-    """Builds the port; returns why it can't be built here, or nothing."""
-    missing = [tool for tool in ("cc", "make") if not shutil.which(tool)]
-    if missing:
-        return f"there is no {' and no '.join(missing)}"
+def build(folder: Path) -> None:
+    """Builds the port."""
     ended = program.run(["make", "-s", "-C", str(PORT), f"OUT={folder}"])
     if ended.status or ended.errors:
         raise program.Broken(f"make in {PORT}: {ended.errors.strip()}")
-    return ""
+
+
+# What runs the port that is built, each with what a line calls it where that can't be built.
+OF_THE_PORT: dict[str, Callable[[Bench], Iterator[tuple[str, str]]]] = {
+    "runs of the port": plain_runs,
+    "runs of each bug": bug_runs,
+    "changed logs": changed_logs.change_runs,
+    "other forms of logs": changed_logs.form_runs,
+    "logs of more than 65,535 steps": changed_logs.long_runs,
+}
 
 
 def checks(given: argparse.Namespace) -> Iterator[tuple[str, str]]:
@@ -185,14 +191,13 @@ def checks(given: argparse.Namespace) -> Iterator[tuple[str, str]]:
         bench = Bench(Path(name), given.program)
         for runs in (flaw_rows.flaw_runs, lesson_runs, changed_logs.unreadable_runs):
             yield from runs(bench)
+        if missing := program.missing_of(("cc", "make")):
+            yield from ((kind, program.Skipped(missing)) for kind in OF_THE_PORT)
+            return
         try:
-            missing = built(bench.folder)
-            if missing:
-                print(f"skipped the port: {missing}", flush=True)
-                return
-            forms = changed_logs.change_runs, changed_logs.form_runs, changed_logs.long_runs
-            for runs in (plain_runs, bug_runs, *forms):
-                yield from runs(bench)
+            build(bench.folder)
+            for of_the_port in OF_THE_PORT.values():
+                yield from of_the_port(bench)
         except program.Broken as fault:
             yield "the port", str(fault)
 

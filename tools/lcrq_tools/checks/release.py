@@ -11,7 +11,8 @@ to a place, and each file that a page, the man page or the README names has to b
 name a folder that the archive doesn't have, or the command of the kit.
 
 Each check prints a line; the status is 1 if one of them fails. It needs pandoc, as tools/release.py
-does. What isn't installed here (man, column, rlwrap, a printer of PDF) is named, and passed over.
+does. Where man, column, rlwrap, make, jsonschema or a printer of PDF isn't installed, the line of what
+needs it says `skipped`.
 """
 
 import os
@@ -29,7 +30,7 @@ from typing import NamedTuple
 
 from lcrq_tools import program
 from lcrq_tools.program import TOP
-from lcrq_tools.release import release_pages
+from lcrq_tools.release import release, release_pages
 
 RELEASE = [sys.executable, str(TOP / "tools" / "release.py")]
 SECONDS = 600  # that making an archive, or the commands of a page, may take
@@ -288,6 +289,11 @@ def needs_a_library(command: Command, own: Path) -> bool:
     return (own / "errors").is_file() and "this needs jsonschema" in (own / "errors").read_text(encoding="utf-8")
 
 
+def needed_in(text: str) -> str:
+    """The names of what a command calls and isn't installed here, or nothing."""
+    return program.missing_of(name for name in PASSED_OVER if re.search(rf"(?:^|[|&;(] *){name} ", text, re.MULTILINE))
+
+
 def try_commands(folder: Path, name: str, commands: list[Command]) -> Iterator[tuple[str, str]]:
     """Runs the commands of a page; gives each with what is wrong, or nothing."""
     with tempfile.TemporaryDirectory() as tried:
@@ -295,10 +301,9 @@ def try_commands(folder: Path, name: str, commands: list[Command]) -> Iterator[t
         for number, command in enumerate(commands):
             own = Path(tried) / str(number)
             first = command.text.strip().splitlines()[0]
-            if needs_a_library(command, own):
-                yield f"{name}: {first} (not tried: no jsonschema here)", ""
-            else:
-                yield f"{name}: {first}", fault_of(command, own)
+            missing = "jsonschema" if needs_a_library(command, own) else needed_in(command.text)
+            fault = "" if missing == "jsonschema" else fault_of(command, own)
+            yield f"{name}: {first}", fault or program.Skipped(missing)
 
 
 # ---- Names and links -----------------------------------------------------------------------------
@@ -476,8 +481,7 @@ def refuses(words: list[str], said: str, built: str, env: Mapping[str, str] | No
 
 def all_checks(built: str) -> Iterator[tuple[str, str]]:
     """All checks, each a name and what is wrong, or nothing."""
-    missing = [name for name in PASSED_OVER if not shutil.which(name)]
-    yield f"not installed here, so passed over: {', '.join(missing) or 'nothing'}", ""
+    yield "what the commands of the pages call is installed", program.Skipped(program.missing_of(PASSED_OVER))
     for words, runs in ARCHIVES:
         yield from check_archive(words, runs, built)
     yield "the same choice gives the same bytes", is_reproducible(built)
@@ -486,11 +490,8 @@ def all_checks(built: str) -> Iterator[tuple[str, str]]:
         (Path(name) / "pandoc").symlink_to(shutil.which("pandoc") or "pandoc")
         alone = os.environ | {"PATH": name}
         yield "--pdf without a printer is refused", refuses(["--pdf"], "neither is there", built, alone)
-    browsers = ("weasyprint", "chromium", "chromium-browser", "google-chrome")
-    if any(map(shutil.which, browsers)):
-        yield "--pdf", is_printed(built)
-    else:
-        yield "--pdf: no printer of PDF is installed here", ""
+    has_printer = any(map(shutil.which, ("weasyprint", *release.BROWSERS)))
+    yield "--pdf", is_printed(built) if has_printer else program.Skipped("chromium or weasyprint")
 
 
 def main() -> int:

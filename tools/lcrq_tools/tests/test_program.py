@@ -1,11 +1,11 @@
-"""How rows are run with each build of the program."""
+"""What a check prints, and how rows are run with each build of the program."""
 
 import tempfile
 import unittest
 from pathlib import Path
 
 from lcrq_tools import program
-from lcrq_tools.program import Broken
+from lcrq_tools.program import Broken, Skipped
 from lcrq_tools.tests.stubs import NO_PROGRAM, told
 
 
@@ -17,6 +17,31 @@ def fault_of(built: str) -> str:
 def unread(_built: str) -> str:
     """Fails to read what a program wrote."""
     return b"\xff".decode()
+
+
+class Lines(unittest.TestCase):
+    """The lines of checks, and the last one."""
+
+    def printed(self, *checks: tuple[str, str]) -> tuple[int, list[str]]:
+        """The status and the lines of these checks."""
+        status, output, _ = told(lambda: program.print_checks(checks), "check.py")
+        return status, output.splitlines()
+
+    def test_right_and_wrong_ones_are_counted(self) -> None:
+        self.assertEqual(self.printed(("a", ""), ("b", "")), (0, ["ok    a", "ok    b", "2 right, 0 wrong"]))
+        self.assertEqual(self.printed(("a", ""), ("b", "why")), (1, ["ok    a", "WRONG b: why", "1 right, 1 wrong"]))
+
+    def test_what_did_not_run_is_no_right_one(self) -> None:
+        rows = [("a", ""), ("b", Skipped("mypy")), ("c", Skipped("cc, make")), ("d", Skipped("make")), ("e", Skipped())]
+        lines = ["ok    a", "skipped: mypy: b", "skipped: cc, make: c", "skipped: make: d", "ok    e"]
+        self.assertEqual(self.printed(*rows), (0, [*lines, "2 right, 0 wrong, 3 skipped: mypy, cc, make"]))
+
+    def test_a_run_without_any_check_that_ran_has_failed(self) -> None:
+        self.assertEqual(self.printed(("a", Skipped("selenium")))[0], 1)
+
+    def test_programs_that_are_missing_are_named(self) -> None:
+        self.assertEqual(program.missing_of([NO_PROGRAM, "nowhere-1", "nowhere-2"]), "nowhere-1, nowhere-2")
+        self.assertEqual(program.missing_of([NO_PROGRAM]), "")
 
 
 class Texts(unittest.TestCase):
