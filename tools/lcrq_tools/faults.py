@@ -50,13 +50,14 @@ def status_of(main: Callable[..., int], *given: object, tool: str = "") -> int:
 
 
 class Parser(argparse.ArgumentParser):
-    """A command line: what the tool is for, as the first paragraph of a text says it, and an example."""
+    """A command line: what the tool is for, as the first paragraph of a text says it, and an example, which is
+    the tool's name and these words."""
 
-    def __init__(self, about: str | None, example: str) -> None:
+    def __init__(self, about: str | None, example: str = "") -> None:
         paragraph = (about or "").partition("\n\n")[0]
         described = textwrap.fill(" ".join(paragraph.split()), WIDTH)
-        form = argparse.RawDescriptionHelpFormatter
-        super().__init__(description=described, epilog=f"example:\n  {example}", formatter_class=form)
+        super().__init__(description=described, formatter_class=argparse.RawDescriptionHelpFormatter)
+        self.epilog = f"example:\n  {self.prog} {example}".rstrip()
 
     def error(self, message: str) -> NoReturn:
         """Raises what is wrong with the command line."""

@@ -20,14 +20,10 @@ from pathlib import Path
 from typing import IO, NamedTuple, ParamSpec, Self
 
 from lcrq_tools.faults import FAULTS, Fault, Parser, text_of
+from lcrq_tools.options import add_program
+from lcrq_tools.places import CRATES as CRATES, EXAMPLES as EXAMPLES, TOP as TOP  # which most take from here
 
-TOP = Path(__file__).resolve().parent.parent.parent
-CRATES, EXAMPLES = TOP / "crates", TOP / "examples"
-# Where the program is: where `rt run` and `rt ci` leave it, and in the archive that is handed out.
-PLACES = (CRATES / "lcrqdb" / "out" / "lcrqdb", TOP / "bin" / "lcrqdb")
-BUILT = next((path for path in PLACES if path.is_file()), PLACES[0])
 BY_RATTLE = ".by-rattle"  # behind the name of the program, as `rt ci` has it built by Rattle's own compiler
-BUILDS = "(cd crates/lcrqdb && rt run -- run ../../examples/session.script), or unproved python3 tools/quick_build.py"
 SECONDS = 120.0  # a run, or a line, that takes longer has failed
 LOOK_EVERY = 0.001
 PIPE_BYTES = 1 << 16
@@ -72,26 +68,10 @@ def is_unproved(data: bytes) -> bool:
     return data.startswith(ELF) and b"AddressSanitizer" in data
 
 
-def required(path: str, command: str) -> str:
-    """Where a program is that this path names. Where there is none, the fault has the command that
-    builds it."""
-    found = shutil.which(path)
-    if not found:
-        raise Fault(f"no program at {path}: at the top of the repository, this builds it: {command}")
-    return found
-
-
 def builds_of(built: str) -> list[Path]:
     """A program, and what Rattle's own compiler built beside it, if that is there."""
     both = [Path(built).absolute(), Path(built + BY_RATTLE).absolute()]
     return [path for path in both if path.is_file()]
-
-
-def add_program(parser: argparse.ArgumentParser) -> None:
-    """Adds the option that names the built program, which has to be there."""
-    built = str(BUILT) if BUILT.is_file() else shutil.which("lcrqdb") or str(BUILT)
-    about = "the program (the built one; else lcrqdb on the PATH)"
-    parser.add_argument("--program", type=lambda path: required(path, BUILDS), default=built, help=about)
 
 
 # ---- Runs ----------------------------------------------------------------------------------------
@@ -154,12 +134,6 @@ def refusals_of(script: bytes, replies: Sequence[str]) -> tuple[str, bool]:
 def world_of(actors: int, ring: int) -> str:
     """How many actors a world has, and cells its rings, in words."""
     return f"{actors} actor{'' if actors == 1 else 's'}, rings of {ring} cells (R = {ring})"
-
-
-def add_refused(parser: argparse.ArgumentParser) -> None:
-    """Adds the option that takes a script although lines are refused that make a step."""
-    about = "go on although a line that makes a step, or one that is no command, is refused"
-    parser.add_argument("--refused", action="store_true", help=about)
 
 
 def peak_of(process: int) -> int:
@@ -381,18 +355,18 @@ def tried(check: Callable[Given, str], *given: Given.args, **named: Given.kwargs
         return text_of(fault)
 
 
-def run_checks(about: str | None, example: str, checks: Checks) -> int:
+def run_checks(about: str | None, checks: Checks) -> int:
     """What a check does that has no option but the program: prints what `checks` finds with these
     options, and returns the exit status."""
-    parser = Parser(about, example)
+    parser = Parser(about)
     add_program(parser)
     return print_checks(checks(parser.parse_args()))
 
 
-def run_rows(about: str | None, example: str, rows: Rows) -> int:
+def run_rows(about: str | None, rows: Rows) -> int:
     """What a check does that tries each row with each build of the program: prints what is wrong with
     them, and last how many rows and which builds there are; returns the exit status."""
-    parser = Parser(about, example)
+    parser = Parser(about)
     add_program(parser)
     builds = builds_of(parser.parse_args().program)
     status = print_checks(

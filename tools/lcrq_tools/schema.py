@@ -69,7 +69,7 @@ def fault_in(name: str) -> str:
 
 def main() -> int:
     """Checks the files of the command line; returns the exit status."""
-    parser = Parser("Checks traces against their JSON Schema.", "schema.py start.trace")
+    parser = Parser(__doc__, "poised.trace")
     parser.add_argument("files", nargs="+", metavar="FILE", help="a trace")
     faults = [(name, fault_in(name)) for name in parser.parse_args().files]
     for name, fault in faults:

@@ -34,6 +34,7 @@ from pathlib import Path
 from lcrq_tools import program
 from lcrq_tools.faults import Parser
 from lcrq_tools.machine import SEED, random_run
+from lcrq_tools.options import add_program
 
 FEWEST_STEPS, MOST_STEPS = 100, 65_535
 LOOK_EVERY = 0.005  # seldom, so that the looks take no time of the program
@@ -341,8 +342,8 @@ class Table:
 
 def read_options() -> argparse.Namespace:
     """The command line."""
-    parser = Parser(__doc__, "python3 tools/bench.py commands --quick")
-    program.add_program(parser)
+    parser = Parser(__doc__, "--quick")
+    add_program(parser)
     parser.add_argument("--quick", action="store_true", help="short runs, few repetitions")
     parser.add_argument("--runs", type=int, help="runs of each script (5, quick: 3)")
     parser.add_argument("--lengths", help="steps of the runs, rising (1000,8000,65000, quick: 1000,8000)")

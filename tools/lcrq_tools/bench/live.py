@@ -23,6 +23,7 @@ from lcrq_tools import program
 from lcrq_tools.bench.views import VIEWERS, script_of
 from lcrq_tools.clients import Client, Live, finish, piped, replies_of, talk
 from lcrq_tools.faults import Fault, Parser
+from lcrq_tools.options import add_program
 
 FIRST = 100  # lines that are asked before the clock starts
 MOST_VIEW, MOST_TRIP = 1.5, 2.0  # times as long as the other way: no more is wanted
@@ -127,8 +128,8 @@ def print_rows(ways: Sequence[Way], taken: Sequence[Sequence[float]], unit: str,
 
 
 def main() -> int:
-    parser = Parser(__doc__, "python3 tools/bench.py live --runs 3")
-    program.add_program(parser)
+    parser = Parser(__doc__, "--runs 3")
+    add_program(parser)
     parser.add_argument("--runs", type=int, default=5, help="how often each is run (5)")
     parser.add_argument("--lines", type=int, default=20_000, help="lines of each file (20000)")
     parser.add_argument("--asked", type=int, default=5_000, help="lines over pipes (5000)")

@@ -99,7 +99,7 @@ fn main(rt: HostRuntime) -> io::Result<()> {
 
 
 def main() -> int:
-    parser = Parser(__doc__, "python3 tools/bench.py lock --runs 3")
+    parser = Parser(__doc__, "--runs 3")
     parser.add_argument("--runs", type=int, default=9, help="how often both are timed (9)")
     parser.add_argument("--holds", type=int, default=20_000, help="holds of each thread (20000)")
     given = parser.parse_args()

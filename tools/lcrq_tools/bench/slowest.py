@@ -56,6 +56,7 @@ from lcrq_tools import dependence, program
 from lcrq_tools.bench.commands import MOST_STEPS
 from lcrq_tools.faults import Parser
 from lcrq_tools.machine import SEED, dequeuers, random_run
+from lcrq_tools.options import add_program
 from lcrq_tools.program import Broken, Driven
 
 FEWEST_STEPS = 1000
@@ -461,8 +462,8 @@ def print_all(options: argparse.Namespace, columns: list[Column], long: list[Tim
 
 def read_options() -> argparse.Namespace:
     """The command line."""
-    parser = Parser(__doc__, "python3 tools/bench.py slowest --lengths 1000,2000 --runs 1")
-    program.add_program(parser)
+    parser = Parser(__doc__, "--lengths 1000,2000 --runs 1")
+    add_program(parser)
     parser.add_argument("--runs", type=int, default=5, help="how often each session is driven (5)")
     parser.add_argument("--lengths", default="16000,32000,65535", help="steps of the runs, rising (16000,32000,65535)")
     about = "the most milliseconds of a line at the greatest length (50)"

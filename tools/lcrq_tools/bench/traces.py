@@ -26,6 +26,7 @@ from typing import NamedTuple
 from lcrq_tools import program
 from lcrq_tools.faults import Parser
 from lcrq_tools.machine import random_run
+from lcrq_tools.options import add_program
 
 QUERIES = 200
 MARKS = 64
@@ -196,8 +197,8 @@ def growth(now: Measured, before: Measured, compared: str) -> str:
 
 
 def main() -> int:
-    parser = Parser(__doc__, "python3 tools/bench.py traces --steps 8000 --runs 3")
-    program.add_program(parser)
+    parser = Parser(__doc__, "--steps 8000 --runs 3")
+    add_program(parser)
     parser.add_argument("--steps", type=int, default=65_000)
     parser.add_argument("--runs", type=int, default=9)
     options = parser.parse_args()

@@ -16,6 +16,7 @@ from pathlib import Path
 
 from lcrq_tools import program
 from lcrq_tools.faults import Parser
+from lcrq_tools.options import add_program
 
 VIEWERS = 4
 
@@ -61,8 +62,8 @@ def measure(built: str, runs: int, lines: int, keeps: bool) -> int:
 
 
 def main() -> int:
-    parser = Parser(__doc__, "python3 tools/bench.py views --runs 3")
-    program.add_program(parser)
+    parser = Parser(__doc__, "--runs 3")
+    add_program(parser)
     parser.add_argument("--runs", type=int, default=9, help="how often each is run (9)")
     parser.add_argument("--lines", type=int, default=20_000, help="lines of each script (20000)")
     parser.add_argument("--null", action="store_true", help="write into /dev/null")

@@ -30,6 +30,7 @@ from typing import Any
 from lcrq_tools import dependence, model, program
 from lcrq_tools.checks import histories, run_pages, shown
 from lcrq_tools.faults import Parser
+from lcrq_tools.options import add_program
 from lcrq_tools.page import page
 
 try:
@@ -296,10 +297,10 @@ def skipped(given: argparse.Namespace, missing: str) -> Iterator[tuple[str, str]
 
 def main() -> int:
     """Prints each check; returns the exit status."""
-    parser = Parser(__doc__, "/usr/bin/python3 tools/check.py browser session")
+    parser = Parser(__doc__, "session")
     about = f"the examples whose pages are opened, {VIEWERS} for a history, and {LONG} for the run of 400 lines (all)"
     parser.add_argument("names", nargs="*", metavar="NAME", help=about)
-    program.add_program(parser)
+    add_program(parser)
     given = parser.parse_args()
     missing = program.missing_of(("chromium", "chromedriver"))
     if missing or not HAS_SELENIUM:

@@ -52,4 +52,4 @@ def all_checks(given: argparse.Namespace) -> Iterator[tuple[str, str]]:
 
 def main() -> int:
     """Prints each line and the view; returns the exit status."""
-    return program.run_checks(__doc__, "python3 tools/check.py conversation", all_checks)
+    return program.run_checks(__doc__, all_checks)

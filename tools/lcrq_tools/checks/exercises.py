@@ -26,6 +26,7 @@ from dataclasses import dataclass
 from pathlib import Path
 
 from lcrq_tools import program
+from lcrq_tools.faults import Fault
 from lcrq_tools.program import EXAMPLES
 
 HEAD, CHANGES = "| Line | Reply |\n|---|---|\n", "| In place of | Write |\n|---|---|\n"
@@ -36,10 +37,6 @@ BEGINS = re.compile(
 TABLE = re.compile(rf"(?:([^\n]*)\n\n)?({re.escape(HEAD)}|{re.escape(CHANGES)})((?:\|[^\n]*\n)*)")
 ROW = re.compile(r"\| `([^`]+)` \| `([^`]+)` \|")
 PARTS = {None: "", "first": "-1", "second": "-2"}  # how the name of a script ends
-
-
-class Fault(Exception):
-    """What is wrong with a page."""
 
 
 @dataclass
@@ -149,4 +146,4 @@ def all_checks(given: argparse.Namespace) -> Iterator[tuple[str, str]]:
 
 def main() -> int:
     """Runs the answers of all lessons; returns the exit status."""
-    return program.run_checks(__doc__, "python3 tools/check.py exercises", all_checks)
+    return program.run_checks(__doc__, all_checks)

@@ -697,4 +697,4 @@ def all_checks(built: str) -> Checks:
 
 def main() -> int:
     """Prints each check; returns the exit status."""
-    return program.run_checks(__doc__, "python3 tools/check.py hostile", lambda given: all_checks(given.program))
+    return program.run_checks(__doc__, lambda given: all_checks(given.program))

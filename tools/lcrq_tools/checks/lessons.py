@@ -321,4 +321,4 @@ def rows() -> program.Rows:
 
 def main() -> int:
     """Prints each row; returns the exit status."""
-    return program.run_rows(__doc__, "python3 tools/check.py lessons", rows())
+    return program.run_rows(__doc__, rows())

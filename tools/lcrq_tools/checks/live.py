@@ -383,4 +383,4 @@ ROWS: program.Rows = [
 
 def main() -> int:
     """Prints each row; returns the exit status."""
-    return program.run_rows(__doc__, "python3 tools/check.py live", ROWS)
+    return program.run_rows(__doc__, ROWS)

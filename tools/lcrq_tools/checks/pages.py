@@ -405,7 +405,7 @@ def check_commands() -> int:
 
 def main() -> int:
     """Runs all checks of the pages; returns the exit status."""
-    parser = Parser(__doc__, "python3 tools/check.py pages")
+    parser = Parser(__doc__)
     parser.add_argument("--store", action="store_true", help="put the right numbers of definitions, files and lines")
     is_stored: bool = parser.parse_args().store
     checks = [check_blocks(), check_names(), check_tools(), check_numbers(is_stored), check_links(), check_commands()]

@@ -33,6 +33,7 @@ from lcrq_tools import dependence, program
 from lcrq_tools.checks import histories, moments, runs
 from lcrq_tools.draw import figure, moment, picture
 from lcrq_tools.faults import Fault, Parser, status_of
+from lcrq_tools.options import add_program
 from lcrq_tools.program import TOP
 
 EXAMPLES = Path("examples")
@@ -404,7 +405,7 @@ def checks(given: argparse.Namespace) -> Iterator[tuple[str, str]]:
 
 def main() -> int:
     """Prints the checks; returns the exit status."""
-    parser = Parser(__doc__, "python3 tools/check.py pictures --store")
+    parser = Parser(__doc__, "--store")
     parser.add_argument("--store", action="store_true", help="store the pictures in place of comparing them")
-    program.add_program(parser)
+    add_program(parser)
     return program.print_checks(checks(parser.parse_args()))

@@ -32,6 +32,7 @@ from typing import NamedTuple, TypeVar
 
 from lcrq_tools import model, program
 from lcrq_tools.faults import Parser
+from lcrq_tools.options import add_program
 
 ACTORS, RINGS = (1, 2, 3, 4), (2, 4, 8)
 STARTS = {"fresh": 34, "linked": 4}  # schedules for each start, each number of actors and each ring
@@ -587,7 +588,7 @@ def checks(given: argparse.Namespace) -> Iterator[tuple[str, str]]:
 
 
 def main() -> int:
-    parser = Parser(__doc__, "python3 tools/check.py pseudo_code --page docs/MODEL.md")
+    parser = Parser(__doc__, "--page docs/MODEL.md")
     parser.add_argument("--page", type=Path, default=model.PAGE, help="another page in place of docs/MODEL.md")
-    program.add_program(parser)
+    add_program(parser)
     return program.print_checks(checks(parser.parse_args()))

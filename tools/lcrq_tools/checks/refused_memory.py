@@ -38,6 +38,8 @@ from typing import NamedTuple, Protocol
 
 from lcrq_tools import manual, program
 from lcrq_tools.faults import Parser
+from lcrq_tools.options import add_program
+from lcrq_tools.places import required
 from lcrq_tools.program import run
 
 HERE = Path(__file__).resolve().parent
@@ -515,16 +517,16 @@ def print_part(part: str, outcomes: Outcomes) -> int:
 
 
 def main() -> int:
-    parser = Parser(__doc__, "python3 tools/check.py refused_memory tests none")
+    parser = Parser(__doc__, "tests none")
     about = f"{', '.join(PARTS)}; all if none is named"
     parser.add_argument("parts", nargs="*", choices=[[], *PARTS], metavar="PART", help=about)
-    program.add_program(parser)
+    add_program(parser)
     tests = str(program.CRATES / "shortages" / "out" / "shortages_tests")
     parser.add_argument("--tests", default=tests, help="the built tests of crates/shortages")
     given, wrong = parser.parse_args(), 0
     parts = given.parts or list(PARTS)
     if not OF_TESTS.keys().isdisjoint(parts):
-        program.required(given.tests, "rt ci, which is the gate")
+        required(given.tests, "rt ci, which is the gate")
     with tempfile.TemporaryDirectory() as folder:
         refuser = Refuser(Path(folder))
         for part in parts:

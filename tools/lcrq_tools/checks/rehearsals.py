@@ -179,4 +179,4 @@ def rows() -> program.Rows:
 
 def main() -> int:
     """Prints each row; returns the exit status."""
-    return program.run_rows(__doc__, "python3 tools/check.py rehearsals", rows())
+    return program.run_rows(__doc__, rows())

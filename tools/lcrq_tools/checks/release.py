@@ -496,5 +496,4 @@ def all_checks(built: str) -> Iterator[tuple[str, str]]:
 
 def main() -> int:
     """Runs all checks."""
-    example = "python3 tools/check.py release"
-    return program.run_checks(__doc__, example, lambda given: all_checks(str(Path(given.program).resolve())))
+    return program.run_checks(__doc__, lambda given: all_checks(str(Path(given.program).resolve())))

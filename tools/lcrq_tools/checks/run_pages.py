@@ -392,4 +392,4 @@ def checks(given: argparse.Namespace) -> Iterator[tuple[str, str]]:
 
 def main() -> int:
     """Prints each check; returns the exit status."""
-    return program.run_checks(__doc__, "python3 tools/check.py run_pages", checks)
+    return program.run_checks(__doc__, checks)

@@ -16,9 +16,9 @@ import argparse
 import tempfile
 from collections.abc import Iterator
 
-from lcrq_tools import program
 from lcrq_tools.faults import Parser
 from lcrq_tools.machine import FAR, dequeuers
+from lcrq_tools.options import add_program
 from lcrq_tools.program import Broken, Driven
 
 ACTORS = 8
@@ -161,8 +161,8 @@ def faults(given: argparse.Namespace, trace: str) -> list[str]:
 
 
 def main() -> int:
-    parser = Parser(__doc__, "python3 tools/check.py segments --limit 2000")
-    program.add_program(parser)
+    parser = Parser(__doc__, "--limit 2000")
+    add_program(parser)
     parser.add_argument("--limit", type=float, default=1000.0, help="the most milliseconds of a line (1000)")
     given = parser.parse_args()
     with tempfile.NamedTemporaryFile("w", suffix=".trace") as trace:

@@ -268,4 +268,4 @@ def all_checks(built: str) -> Iterator[tuple[str, str]]:
 
 def main() -> int:
     """Prints each check; returns the exit status."""
-    return program.run_checks(__doc__, "python3 tools/check.py statuses", lambda given: all_checks(given.program))
+    return program.run_checks(__doc__, lambda given: all_checks(given.program))

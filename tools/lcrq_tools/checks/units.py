@@ -5,7 +5,7 @@
 The tests are in tools/lcrq_tools/tests/ and need no built program: they try layouts of drawings, the
 grammar of tables, pseudo-code and logs, the command line of each tool, and what is read of a small
 tree. `pytest` runs them where it is there (python3-pytest of Debian, or pytest of pip), and else Python's
-`unittest`; each line says which. What mypy and ruff shall hold is in pyproject.toml. Each check prints
+`unittest`; each line says which. What mypy and ruff shall hold is in tools/pyproject.toml. Each check prints
 a line; the status is 1 if one of them fails. Where mypy, ruff or what a test needs isn't there, a line
 says `skipped`. Only Python's standard library is needed.
 """
@@ -124,7 +124,7 @@ def tool_check(tool: str, *words: str) -> tuple[str, str]:
     begin, name = words_of(tool), " ".join([tool, *words])
     if not begin:
         return name, Skipped(tool)
-    ended = program.run([*begin, *words], cwd=TOP, timeout=SECONDS)
+    ended = program.run([*begin, *words], cwd=TOOLS, timeout=SECONDS)
     said = ended.output.decode(errors="replace") + ended.errors
     return name, f"status {ended.status}\n{said[:SHOWN].rstrip()}" if ended.status else ""
 
@@ -133,10 +133,10 @@ def all_checks() -> Iterator[tuple[str, str]]:
     """All checks, each a name and what is wrong, or nothing."""
     yield from unit_checks()
     yield tool_check("mypy")
-    yield tool_check("ruff", "check", "tools")
+    yield tool_check("ruff", "check", ".")
 
 
 def main() -> int:
     """Prints each check; returns the exit status."""
-    Parser(__doc__, "python3 tools/check.py units").parse_args()
+    Parser(__doc__).parse_args()
     return program.print_checks(all_checks())

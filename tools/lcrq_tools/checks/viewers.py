@@ -148,7 +148,7 @@ fn main(rt: HostRuntime) -> io::Result<()> {
 
 
 def main() -> int:
-    parser = Parser(__doc__, "python3 tools/check.py viewers --runs 3")
+    parser = Parser(__doc__, "--runs 3")
     parser.add_argument("--runs", type=int, default=9, help="how often the 64 viewers ask (9)")
     runs = parser.parse_args().runs
     source = PROGRAM.replace("RUNS", str(runs)).replace("CALLS", "1_560")

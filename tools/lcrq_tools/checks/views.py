@@ -29,6 +29,7 @@ from lcrq_tools.checks.viewer_scripts import (
 )
 from lcrq_tools.faults import Parser
 from lcrq_tools.history import History
+from lcrq_tools.options import add_program
 
 COUNT = 60  # seeds
 MOST_VIEWERS = 8
@@ -133,8 +134,8 @@ def all_checks(built: str, seeds: range) -> Iterator[tuple[str, str]]:
 
 def main() -> int:
     """Prints each seed; returns the exit status."""
-    parser = Parser(__doc__, "python3 tools/check.py views --seed 7 --count 1")
-    program.add_program(parser)
+    parser = Parser(__doc__, "--seed 7 --count 1")
+    add_program(parser)
     parser.add_argument("--seed", type=int, default=1, metavar="S", help="the seed of the first view (1)")
     parser.add_argument("--count", type=int, default=COUNT, metavar="N", help=f"how many seeds ({COUNT})")
     given = parser.parse_args()

@@ -1,19 +1,19 @@
 """What `tools/picture.py` and `tools/moment.py` share: the session that a script or a history leaves,
-whose replies a figure is made from, the elements of SVG, colours and sizes, and the command line.
+whose replies a figure is made from, the elements of SVG, colours and sizes.
 
 A figure's text is plain: no script, no font of its own, and a title and a description in words.
 Only Python's standard library is used.
 """
 
 import argparse
-import sys
 from collections.abc import Callable, Iterable, Sequence
 from pathlib import Path
 from xml.sax.saxutils import escape
 
 from lcrq_tools import history
-from lcrq_tools.faults import Fault, Parser, say
-from lcrq_tools.program import add_program, add_refused, bytes_of, refusals_of, run, world_of
+from lcrq_tools.faults import Fault, say
+from lcrq_tools.options import MOST_ACTORS, start_words, write
+from lcrq_tools.program import bytes_of, refusals_of, run, world_of
 
 # The colours of Okabe and Ito: of an actor's dots and lines, and darker for its words. Their
 # vermilion is that of `--undo` and `--roll`, and of what is unsafe or closed.
@@ -32,7 +32,7 @@ BAND, GROUND, LANE, GREY, DARK = "#f1f1ee", "#ffffff", "#b9b9b4", "#6a6a6a", "#2
 MARGIN = 16
 SMALL, PLAIN, HEAD = 10, 11, 12
 
-MOST_ACTORS, MOST_CELLS = 16, 64  # that a world may have
+MOST_CELLS = 64  # that are asked for, to see how many a ring has
 
 # How wide a letter is, as a part of the size, in a wide font; other letters are as wide as NORMAL.
 WIDTHS = {"ijl.,:;|'! ": 0.34, "frt-()": 0.44, "mwMW→": 0.98, "ABCDEGHNOQRSTUV": 0.75}
@@ -90,16 +90,7 @@ class Session:
 def words_of(arguments: argparse.Namespace) -> list[str]:
     """The words that start the program."""
     program: str = arguments.program
-    trace: str | None = arguments.trace
-    actors: str | None = arguments.actors
-    ring: str | None = arguments.ring
-    if trace is None:
-        options = [("--actors", actors), ("--ring", ring)]
-        chosen = [word for option, value in options if value for word in (option, value)]
-        return [program, "run", *chosen, "-"]
-    if actors or ring:
-        raise Fault("a trace has its own actors and rings: --trace comes without --actors and --ring")
-    return [program, "load", "--", trace]
+    return [program, *start_words(arguments.trace, arguments.actors, arguments.ring)]
 
 
 def given_of(arguments: argparse.Namespace) -> tuple[bytes, tuple[int, ...]]:
@@ -188,29 +179,6 @@ def svg(title: str, about: str, width: float, height: float, lines: Iterable[str
 # ---- The command line -----------------------------------------------------------------------------
 
 
-def number_above_0(text: str) -> int:
-    """A number of the command line, 1 at least."""
-    if not text.isdecimal() or int(text) == 0:
-        raise argparse.ArgumentTypeError(f"{text} is no number from 1 on")
-    return int(text)
-
-
-def parser_of(about: str, example: str, out: str = "OUT.svg") -> Parser:
-    """The command line, as far as the tools share it."""
-    it = Parser(about, example)
-    given = it.add_mutually_exclusive_group(required=True)
-    given.add_argument("script", metavar="SCRIPT", nargs="?", help="the script; - is standard input")
-    calls = "in place of SCRIPT: what `lcrqdb view FILE.. --history` wrote, or its lines `V LINE`; - is standard input"
-    given.add_argument("--history", metavar="FILE", help=calls)
-    it.add_argument("-o", dest="out", metavar=out, default="-", help="the file that is written; - is standard output")
-    it.add_argument("--trace", metavar="FILE", help="the trace over which the script is run")
-    it.add_argument("--actors", metavar="A", help="how many actors the fresh world has")
-    it.add_argument("--ring", metavar="R", help="how many cells its rings have")
-    add_refused(it)
-    add_program(it)
-    return it
-
-
 def kind_of(arguments: argparse.Namespace) -> str:
     """What is run: a script or a history."""
     return "script" if arguments.history is None else "history"
@@ -225,12 +193,8 @@ def script_name(arguments: argparse.Namespace) -> str:
 def write_drawn(arguments: argparse.Namespace, drawn_of: Callable[[argparse.Namespace], tuple[str, str]]) -> int:
     """Writes the text that `drawn_of` makes of a command line, which comes with what to say of the
     script's refused lines; returns the exit status."""
-    out: str = arguments.out
     drawn, refused = drawn_of(arguments)
-    if out == "-":
-        sys.stdout.write(drawn)
-    else:
-        Path(out).write_text(drawn, encoding="utf-8")
+    write(arguments.out, drawn)
     if refused:
         say(refused)
     return 0

@@ -33,10 +33,11 @@ from collections.abc import Iterable, Iterator, Sequence
 from dataclasses import dataclass, field
 
 from lcrq_tools import model
-from lcrq_tools.draw.figure import Session, kind_of, number_above_0, parser_of, script_name, segment_of, write_drawn
+from lcrq_tools.draw.figure import Session, kind_of, script_name, segment_of, write_drawn
 from lcrq_tools.draw.queue_drawing import draw
 from lcrq_tools.draw.viewer_marks import viewer_name
 from lcrq_tools.faults import Fault
+from lcrq_tools.options import number_above_0, run_parser
 
 SLOTS = 64
 AT_ONCE = 16  # of how many segments of a maker one run asks
@@ -299,8 +300,7 @@ def moment_of(arguments: argparse.Namespace) -> tuple[Moment, str]:
 
 def parser() -> argparse.ArgumentParser:
     """The command line."""
-    about = "Draws the queue at one moment of a run, of a script or of several viewers."
-    it = parser_of(about, "moment.py session.script --line 7 -o moment.svg")
+    it = run_parser(__doc__, "session.script --line 7 -o moment.svg")
     line = "the moment after line N, in place of the last one"
     it.add_argument("--line", dest="lines", metavar="N", type=number_above_0, help=line)
     return it

@@ -50,9 +50,10 @@ from typing import TypedDict
 
 from lcrq_tools.draw.askers import viewers_after
 from lcrq_tools.draw.drawing import draw
-from lcrq_tools.draw.figure import Session, kind_of, number_above_0, parser_of, script_name, segment_of, write_drawn
+from lcrq_tools.draw.figure import Session, kind_of, script_name, segment_of, write_drawn
 from lcrq_tools.draw.lanes import Call, Picture, Row, actor_lane, dot_of, order_of
 from lcrq_tools.faults import Fault
+from lcrq_tools.options import number_above_0, run_parser
 from lcrq_tools.program import Broken, Driven
 
 MOST_ROWS = 200
@@ -459,8 +460,7 @@ def title_of(arguments: argparse.Namespace, session: Session, picture: Picture) 
 
 def parser() -> argparse.ArgumentParser:
     """The command line."""
-    about = "Draws the run of a script, or of several viewers, as a picture."
-    it = parser_of(about, "picture.py session.script --undo 8 -o run.svg")
+    it = run_parser(__doc__, "session.script --undo 8 -o run.svg")
     asked = it.add_mutually_exclusive_group()
     asked.add_argument("--undo", metavar="K", type=number_above_0, help="show what the line `undo K` is answered")
     asked.add_argument("--roll", metavar="K", type=number_above_0, help="shade the steps that `roll K` takes")

@@ -1,4 +1,4 @@
-"""How many clauses the contracts of each crate have, and how many are wide or cite a view by a function.
+"""Counts the clauses of each crate's contracts, and those that are wide or cite a view by a function.
 
     python3 tools/contracts.py
 
@@ -75,6 +75,6 @@ def print_counts() -> None:
 
 def main() -> int:
     """Prints the table; returns the exit status."""
-    Parser("How many clauses the contracts of each crate have.", "python3 tools/contracts.py").parse_args()
+    Parser(__doc__).parse_args()
     print_counts()
     return 0

@@ -1,4 +1,4 @@
-"""Which definitions and types a contract reaches: what its reader has to believe.
+"""Lists the definitions and types that a contract reaches: what its reader has to believe.
 
     python3 tools/definitions.py [--text] [FILE FUNCTION[.LABEL]..]..
 
@@ -322,8 +322,7 @@ def print_texts(reached: Reached) -> None:
 
 def main() -> int:
     """Prints what the command line asks for; returns the exit status."""
-    example = "python3 tools/definitions.py rd_marks/src/books/obeying.rt apply_all.headline"
-    parser = Parser("Which definitions and types a contract reaches.", example)
+    parser = Parser(__doc__, " ".join(HEADLINE))
     parser.add_argument("--text", action="store_true", help="print the definitions themselves")
     words = "a source file, from crates/, and functions of it, with or without a label; else the headline's"
     parser.add_argument("words", nargs="*", metavar="FILE FUNCTION[.LABEL]", help=words)

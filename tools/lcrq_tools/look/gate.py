@@ -1,4 +1,4 @@
-"""Where the processor minutes of a gate go: proofs, proofs of tests and must-fail edits, crate by
+"""Shows where the processor minutes of a gate go: proofs, proofs of tests and must-fail edits, crate by
 crate.
 
     python3 tools/gate.py --watch TIMES
@@ -134,7 +134,7 @@ def show(times: Times) -> None:
 
 def main() -> int:
     """Watches, or prints the tables, as the command line asks; returns the exit status."""
-    parser = Parser("Where the processor minutes of a gate go.", "python3 tools/gate.py --watch times")
+    parser = Parser(__doc__, "--watch times")
     parser.add_argument("times", nargs="+", help="the files of times; with --watch the one to append to")
     parser.add_argument("--watch", action="store_true", help="watch the checker's processes until stopped")
     about = "count only calls of this `rt ci`, by its process number"

@@ -1,4 +1,4 @@
-"""How many lines of code, definitions, proofs and tests each crate has.
+"""Counts the lines of code, definitions, proofs and tests of each crate.
 
     python3 tools/lines.py
 
@@ -82,6 +82,6 @@ def print_crates() -> None:
 
 def main() -> int:
     """Prints the table; returns the exit status."""
-    Parser("Lines by crate and kind.", "python3 tools/lines.py").parse_args()
+    Parser(__doc__).parse_args()
     print_crates()
     return 0

@@ -1,4 +1,4 @@
-"""What each crate promises: its public functions, its laws, and what every value of a type keeps.
+"""Lists what each crate promises: its public functions, its laws, and what every value of a type keeps.
 
     python3 tools/promises.py [CRATE..]
 
@@ -62,7 +62,7 @@ def print_promises(crates: Sequence[str]) -> None:
 
 def main() -> int:
     """Prints the table that the command line asks for; returns the exit status."""
-    parser = Parser("What each crate promises.", "python3 tools/promises.py rd_ring")
+    parser = Parser(__doc__, "rd_ring")
     parser.add_argument("crates", nargs="*", metavar="CRATE", help="a crate; else all of them")
     given = parser.parse_args()
     signal.signal(signal.SIGPIPE, signal.SIG_DFL)  # who reads the output may stop

@@ -35,8 +35,9 @@ from pathlib import Path
 from string import Template
 
 from lcrq_tools import model
-from lcrq_tools.draw.figure import ACTORS, kind_of, parser_of, script_name, write_drawn
+from lcrq_tools.draw.figure import ACTORS, kind_of, script_name, write_drawn
 from lcrq_tools.faults import Fault
+from lcrq_tools.options import run_parser
 from lcrq_tools.page import page_lanes, page_moments, page_parts
 from lcrq_tools.page.page_lanes import Lanes
 from lcrq_tools.page.page_viewers import Marks
@@ -94,8 +95,8 @@ def command_of(arguments: argparse.Namespace) -> list[str]:
     if trace:
         words = ["lcrqdb", "load", Path(trace).name]
     else:
-        options: list[tuple[str, str | None]] = [("--actors", arguments.actors), ("--ring", arguments.ring)]
-        words = ["lcrqdb", "run", *(word for option, value in options if value for word in (option, value)), "-"]
+        options: list[tuple[str, int | None]] = [("--actors", arguments.actors), ("--ring", arguments.ring)]
+        words = ["lcrqdb", "run", *(word for option, value in options if value for word in (option, str(value))), "-"]
     given = arguments.script if arguments.history is None else arguments.history
     name = shlex.quote(f"s.{kind_of(arguments)}" if given == "-" else Path(given).name)
     if arguments.history is None:
@@ -217,10 +218,9 @@ def part_of(text: str) -> tuple[int, int]:
 
 def parser() -> argparse.ArgumentParser:
     """The command line."""
-    about = "Makes the run of a script, or of several viewers, a page."
-    it = parser_of(about, "page.py session.script -o run.html", "OUT.html")
+    it = run_parser(__doc__, "session.script -o run.html", "OUT.html")
     options = "[-o OUT.html] [--lines A:B] [--actors A] [--ring R] [--trace FILE] [--refused] [--program P]"
-    it.usage = f"page.py (SCRIPT | --history FILE) {options}"
+    it.usage = f"%(prog)s (SCRIPT | --history FILE) {options}"
     it.add_argument("--lines", dest="part", metavar="A:B", type=part_of, help="the lines A to B in place of all")
     return it
 

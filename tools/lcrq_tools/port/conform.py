@@ -11,7 +11,7 @@ compared. A run may be longer than the most live steps: it is frozen then, and g
 
 The status is 0 if all agree, in one line; 1 if something differs, and then the first difference is
 told; 2 if a log can't be read, with the record, and for any other fault. With -o the folder DIR gets
-a script to there, the start before it, a picture, and a page where tools/page.py is there. With
+a script to there, the start before it, a picture and a page. With
 --go-on the port's side is taken at each difference, and all are listed, by label and kind. At the end
 come values that were put and never taken, taken more often than put, or never put, and calls that
 never ended.
@@ -25,7 +25,7 @@ import time
 from collections.abc import Iterator
 from pathlib import Path
 
-from lcrq_tools import program
+from lcrq_tools import options
 from lcrq_tools.faults import FAULTS, Fault, Parser, say, text_of
 from lcrq_tools.port.port_compare import Comparison, Difference
 from lcrq_tools.port.port_log import Record, Unreadable, read_logs
@@ -43,28 +43,21 @@ SECONDS = 0.2  # between two lines of progress
 
 def parser() -> argparse.ArgumentParser:
     """The command line."""
-    about = "Compares the log of a port of the queue with the model."
-    it = Parser(about, "conform.py port.log --ring 2 -o difference")
+    it = Parser(__doc__, "port/unsafe-ignored.log --ring 2 -o difference")
     it.add_argument("logs", metavar="LOG", nargs="+", help="a log; - is standard input")
-    it.add_argument("--ring", type=int, choices=(2, 4, 8), help="cells of a ring (4)")
-    it.add_argument("--trace", metavar="TRACE", help="the trace over which the port began")
+    options.add_ring(it)
+    options.add_trace(it)
     it.add_argument("--go-on", action="store_true", help="take the port's side at each difference, and list all")
     files = "the folder for the files about the first difference"
     it.add_argument("-o", dest="output", metavar="DIR", type=Path, help=files)
-    program.add_program(it)
+    options.add_program(it)
     return it
 
 
 def options_of(given: argparse.Namespace, records: list[Record]) -> list[str]:
     """The words after the program's name."""
-    trace: str | None = given.trace
-    ring: int | None = given.ring
-    if trace:
-        if ring:
-            raise Unreadable("a trace has its own rings: --trace comes without --ring")
-        return ["load", "--", trace]
-    actors = max(record.actor for record in records)
-    return ["run", "-", "--actors", str(actors), "--ring", str(ring or 4)]
+    actors = None if given.trace else max(record.actor for record in records)
+    return options.start_words(given.trace, actors, given.ring)
 
 
 class Progress:

@@ -4,20 +4,20 @@ start, a picture and a page. `conform.py` is the tool that uses this. Only Pytho
 is used.
 """
 
-import subprocess
-import sys
-from collections.abc import Iterable, Iterator
+from collections.abc import Callable, Iterable, Iterator
 from pathlib import Path
 
 from lcrq_tools import model
 from lcrq_tools.draw import picture
 from lcrq_tools.draw.figure import segment_of
+from lcrq_tools.faults import FAULTS, text_of
+from lcrq_tools.page import page
 from lcrq_tools.port.port_compare import NEEDS_CHOICE, Comparison, Difference, point_of, words_of
-from lcrq_tools.program import TOP
 
 ROWS = 25  # steps of the picture
 PAGE_LINES = 100  # of the script, on the page
 TOUCHES = 8  # steps that are named, of those that touched a place
+Tool = Callable[[list[str]], int]  # the `main` of what draws a run, by the words of a command line
 ENDS = {"qhead": "QHead", "qtail": "QTail", "ahead": "ArrHead", "atail": "ArrTail"}
 
 # ---- Words ---------------------------------------------------------------------------------------
@@ -192,10 +192,9 @@ class About:
         start.write_text(self.start(), encoding="ascii")
         yield f"{start}: the start before the step"
         options = [str(script), *self.options(folder), "--program", self.replay.program]
-        yield self.drawn("picture.py", options, self.windows(self.replay.first + len(lines)), folder / "steps.svg")
-        if (TOP / "tools" / "page.py").exists():
-            part = ["--lines", f"{max(1, len(lines) - PAGE_LINES + 1)}:{len(lines)}"]
-            yield self.drawn("page.py", options, [part], folder / "steps.html")
+        yield self.drawn(picture.main, options, self.windows(self.replay.first + len(lines)), folder / "steps.svg")
+        part = ["--lines", f"{max(1, len(lines) - PAGE_LINES + 1)}:{len(lines)}"]
+        yield self.drawn(page.main, options, [part], folder / "steps.html")
 
     def windows(self, count: int) -> Iterator[list[str]]:
         """The options that choose the rows of the picture of so many steps: the last ones at the places in
@@ -216,16 +215,15 @@ class About:
         places = ["--places", ",".join(self.places())] if self.places() else []
         return ["--from", str(first), "--to", str(max(1, count)), "--actor", str(actor), *places]
 
-    def drawn(self, tool: str, options: list[str], parts: Iterable[list[str]], output: Path) -> str:
-        """Draws the run by a tool of this folder, the first of these parts that it can draw; returns what
-        to say of it."""
+    def drawn(self, tool: Tool, options: list[str], parts: Iterable[list[str]], output: Path) -> str:
+        """Draws the run by a tool, the first of these parts that it can draw; returns what to say of it."""
         said = ""
         for part in parts:
-            command = [sys.executable, str(TOP / "tools" / tool), *options, *part, "-o", str(output)]
-            ended = subprocess.run(command, capture_output=True, text=True, check=False)
-            if not ended.returncode:
+            try:
+                tool([*options, *part, "-o", str(output)])
                 return f"{output}: the last steps"
-            said = ended.stderr.strip()
+            except FAULTS as fault:
+                said = text_of(fault)
         return f"no {output.name}: {said}"
 
 

@@ -20,7 +20,8 @@ import time
 from pathlib import Path
 
 from lcrq_tools.faults import Fault, Parser, say
-from lcrq_tools.program import BUILT, CRATES, ELF, is_unproved
+from lcrq_tools.places import BUILT, CRATES
+from lcrq_tools.program import ELF, is_unproved
 
 LOOK_EVERY = 0.2  # seconds between two looks at the pipe
 
@@ -73,7 +74,7 @@ def build_into(out: Path) -> None:
 
 def main() -> int:
     """Builds the program where that takes the place of no other one."""
-    parser = Parser("Builds the program without any proof, and keeps it.", "python3 tools/quick_build.py -o lcrqdb")
+    parser = Parser(__doc__, "-o lcrqdb")
     parser.add_argument("-o", dest="out", type=Path, default=BUILT, metavar="FILE", help=f"where it goes ({BUILT})")
     out: Path = parser.parse_args().out
     begin = time.monotonic()

@@ -33,6 +33,7 @@ from pathlib import Path
 
 from lcrq_tools import program
 from lcrq_tools.faults import Fault, Parser, say
+from lcrq_tools.options import add_program
 from lcrq_tools.program import EXAMPLES, TOP
 from lcrq_tools.release.release_pages import (
     DOCS, HANDED_OUT, LESSONS, PORT, SCHEMA, Choice, Part, is_chosen, man_page, page_of,
@@ -325,15 +326,14 @@ def lessons_in(text: str) -> tuple[int, ...]:
 
 def read_options() -> argparse.Namespace:
     """The command line."""
-    example = "python3 tools/release.py --lessons 5,14,15 --answers apart"
-    parser = Parser("Makes the archive that is handed out.", example)
+    parser = Parser(__doc__, "--lessons 5,14,15 --answers apart")
     parser.add_argument("-o", dest="folder", default=".", metavar="FOLDER", help="where it goes (this folder)")
     lessons = "these lessons alone"
     parser.add_argument("--lessons", type=lessons_in, default=tuple(LESSONS), metavar="N,N..", help=lessons)
     about = "where the answers to exercises are: with them (so if left out), apart on a page, or nowhere"
     parser.add_argument("--answers", choices=("with", "apart", "none"), default="with", help=about)
     parser.add_argument("--pdf", action="store_true", help="print guide, lessons and answers, too")
-    program.add_program(parser)
+    add_program(parser)
     return parser.parse_args()
 
 

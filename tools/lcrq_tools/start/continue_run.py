@@ -22,6 +22,7 @@ from pathlib import Path
 
 from lcrq_tools import program
 from lcrq_tools.faults import Fault, Parser
+from lcrq_tools.options import add_program
 from lcrq_tools.program import Broken, Driven
 
 MOST_STEPS = 20_000  # of a continuation
@@ -121,14 +122,13 @@ def go_on(given: argparse.Namespace) -> None:
 
 def main() -> int:
     """Makes the continuations that the command line asks for; returns the exit status."""
-    about = "Goes on from a trace at random until all actors are idle."
-    parser = Parser(about, "continue_run.py start.trace --runs 1000")
+    parser = Parser(__doc__, "poised.trace --runs 20")
     parser.add_argument("trace", metavar="TRACE", help="the trace from which it goes on")
     parser.add_argument("--runs", type=int, default=100, metavar="N", help="how many continuations (100)")
     parser.add_argument("--seed", type=int, default=1, metavar="S", help="the seed of the first one (1)")
     output = "where the lines of the first one go"
     parser.add_argument("-o", dest="output", type=Path, metavar="OUT.script", help=output)
-    program.add_program(parser)
+    add_program(parser)
     given = parser.parse_args()
     try:
         ended = program.run([given.program, "load", "--", given.trace])

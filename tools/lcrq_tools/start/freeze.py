@@ -1,5 +1,5 @@
-"""A start out of a run: writes the world at a script's end as a start of one's own, a trace over
-which `lcrqdb load` runs other scripts.
+"""Writes the world at a script's end as a start of one's own: a trace over which `lcrqdb load` runs other
+scripts.
 
     python3 tools/freeze.py SCRIPT -o START.trace [--actors A] [--ring R] [--refused] [--program P]
     python3 tools/freeze.py SCRIPT -o START.trace --trace TRACE [--refused] [--program P]
@@ -27,10 +27,9 @@ import json
 import subprocess
 import sys
 from collections.abc import Callable, Iterable
-from pathlib import Path
 from typing import Protocol, TypeVar, cast
 
-from lcrq_tools import program
+from lcrq_tools import options, program
 from lcrq_tools.faults import Fault, Parser, say
 from lcrq_tools.program import Broken, Driven
 from lcrq_tools.start import flaws
@@ -177,25 +176,6 @@ def text_of(
 # ---- Runs ----------------------------------------------------------------------------------------
 
 
-def read(name: str) -> bytes:
-    """The bytes of a file, or of standard input."""
-    try:
-        return sys.stdin.buffer.read() if name == "-" else Path(name).read_bytes()
-    except OSError as fault:
-        raise Fault(f"{name}: {fault.strerror}") from fault
-
-
-def write(name: str, text: str) -> None:
-    """Writes a text into a file, or to standard output."""
-    try:
-        if name == "-":
-            sys.stdout.write(text)
-        else:
-            Path(name).write_text(text, encoding="ascii")
-    except OSError as fault:
-        raise Fault(f"{name}: {fault.strerror}") from fault
-
-
 def look_for_refusals(words: list[str], script: bytes, takes_refused: bool) -> None:
     """Runs a script, and says how many of its lines are refused; a refused event ends it."""
     ended = program.run(words, script)
@@ -229,20 +209,15 @@ def schema_fault(text: str) -> str:
 
 def read_options() -> argparse.Namespace:
     """The command line."""
-    parser = Parser("Writes the world at a script's end as a start.", "freeze.py session.script -o start.trace")
-    parser.add_argument("script", metavar="SCRIPT", nargs="?", help="the script; - is standard input")
-    output = "the file to write; - is standard output"
-    parser.add_argument("-o", dest="output", metavar="START.trace", help=output)
+    parser = Parser(__doc__, "session.script -o start.trace")
+    options.add_script(parser)
+    options.add_output(parser, "START.trace")
     parser.add_argument("--check", metavar="TRACE", help="say which part of a trace's start has a flaw")
-    parser.add_argument("--trace", help="the trace over which the script runs")
-    parser.add_argument("--actors", type=int, choices=range(1, 17), metavar="A", help="1 to 16 actors (4)")
-    parser.add_argument("--ring", type=int, choices=(2, 4, 8), help="cells of a ring (4)")
-    program.add_refused(parser)
-    program.add_program(parser)
+    options.add_world(parser)
+    options.add_refused(parser)
+    options.add_program(parser)
     given = parser.parse_args()
-    if given.trace and (given.actors or given.ring):
-        parser.error("a trace has its own actors and ring")
-    if not given.check and not (given.script and given.output):
+    if not given.check and not (given.script and given.out):
         parser.error("SCRIPT and -o START.trace are wanted, or --check TRACE")
     return given
 
@@ -250,7 +225,7 @@ def read_options() -> argparse.Namespace:
 def check(program_path: str, name: str) -> int:
     """Says what is wrong with the start of a trace; returns the exit status."""
     try:
-        trace: flaws.Trace = json.loads(read(name))
+        trace: flaws.Trace = json.loads(program.bytes_of(name))
         has_start = isinstance(trace, dict) and "actors" in trace.get("start", {})
     except ValueError:
         has_start = False
@@ -266,12 +241,10 @@ def main() -> int:
     """Writes the start that the command line asks for, or checks one; returns the exit status."""
     given = read_options()
     program_path: str = given.program
-    trace_name: str | None = given.trace
     if given.check:
         return check(program_path, given.check)
-    script = read(given.script)
-    options = ["--actors", str(given.actors or 4), "--ring", str(given.ring or 4)]
-    words = [program_path, *(["load", trace_name] if trace_name else ["run", "-", *options])]
+    script = program.bytes_of(given.script)
+    words = [program_path, *options.start_words(given.trace, given.actors, given.ring)]
     try:
         look_for_refusals(words, script, given.refused)
         start = start_after(words, script)
@@ -279,7 +252,7 @@ def main() -> int:
         raise Fault(f"the script can't be run: {fault}") from fault
     if wrong := schema_fault(start):
         raise Fault(f"the schema of traces refuses this start: {wrong}")
-    write(given.output, start)
+    options.write(given.out, start)
     trace: flaws.Trace = json.loads(start)
     world = program.world_of(len(trace["start"]["actors"]), trace["ring"])
     say(f"a start with {world}")

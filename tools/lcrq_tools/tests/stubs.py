@@ -8,7 +8,7 @@ import sys
 from collections.abc import Callable, Iterator
 from unittest import mock
 
-from lcrq_tools import program
+from lcrq_tools import options
 from lcrq_tools.faults import status_of
 
 NO_PROGRAM = shutil.which("true") or "/bin/true"  # which is not lcrqdb, and replies nothing
@@ -18,7 +18,7 @@ SESSION = '{"events":[["enq",1,7],["go",1]]}'  # a trace
 @contextlib.contextmanager
 def with_program() -> Iterator[None]:
     """While this holds, a command line takes any name of a program for one that is there."""
-    with mock.patch.object(program, "required", lambda path, _command: path):
+    with mock.patch.object(options, "required", lambda path: path):
         yield
 
 

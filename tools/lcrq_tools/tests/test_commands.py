@@ -1,6 +1,7 @@
 """The command line of each tool: its help with an example, and how it says a fault."""
 
 import argparse
+import contextlib
 import importlib
 import shlex
 import subprocess
@@ -62,11 +63,9 @@ class Helps(unittest.TestCase):
             with self.subTest(words):
                 status, output, errors = told(main, words, "--help")
                 self.assertEqual((status, errors), (0, ""))
-                example = example_of(output)
-                example = example[1:] if example[0].endswith("python3") else example
-                script, *rest = words.split(" ")
-                self.assertEqual([Path(example[0]).name, *example[1:len(rest) + 1]], [script, *rest])
-                self.check_reads(main, words, example[len(rest) + 1:])
+                example, called = example_of(output), words.split(" ")
+                self.assertEqual(example[:len(called)], called)
+                self.check_reads(main, words, example[len(called):])
 
     def check_reads(self, main: Callable[..., int], words: str, example: list[str]) -> None:
         """That the command line of an example has no fault."""
@@ -123,8 +122,12 @@ class Faults(unittest.TestCase):
 
     def test_options_that_exclude_each_other(self) -> None:
         words = ["a", "-o", "b", "--trace", "c", "--ring", "2", "--program", NO_PROGRAM]
-        self.check_fault(freeze.main, "freeze.py", words,
-                         "a trace has its own actors and ring; --help shows what may be given")
+        said = "a trace has its own actors and rings: --trace comes without --actors and --ring"
+        tools: list[tuple[Callable[..., int], str]] = [(picture.main, "picture.py"), (freeze.main, "freeze.py")]
+        with tempfile.TemporaryDirectory() as folder, contextlib.chdir(folder):
+            Path("a").touch()
+            for main, tool in tools:
+                self.check_fault(main, tool, words, said)
 
     def test_an_error_of_a_file_is_its_name_and_why(self) -> None:
         self.assertEqual(faults.text_of(FileNotFoundError(2, "No such file", "a.log")), "a.log: No such file")

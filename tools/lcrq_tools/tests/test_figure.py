@@ -60,18 +60,9 @@ class Scripts(unittest.TestCase):
         with self.assertRaisesRegex(Fault, "^nowhere.script: No such file or directory$"):
             figure.script_of("nowhere.script", None)
 
-    def test_a_trace_has_its_own_world(self) -> None:
-        given = argparse.Namespace(program="lcrqdb", trace="a.trace", actors=None, ring="2")
-        with self.assertRaisesRegex(Fault, "--trace comes without --actors and --ring"):
-            figure.words_of(given)
-        given.ring = None
+    def test_the_program_is_started_over_the_trace(self) -> None:
+        given = argparse.Namespace(program="lcrqdb", trace="a.trace", actors=None, ring=None)
         self.assertEqual(figure.words_of(given), ["lcrqdb", "load", "--", "a.trace"])
-
-    def test_a_number_of_a_command_line_is_1_at_least(self) -> None:
-        self.assertEqual(figure.number_above_0("12"), 12)
-        for word in ("0", "-1", "x", ""):
-            with self.subTest(word), self.assertRaises(argparse.ArgumentTypeError):
-                figure.number_above_0(word)
 
     def test_a_place_is_in_its_segment(self) -> None:
         places = ["tail 0.0", "cell 2.1 3", "qhead", "acell 4", "whole 1.0"]

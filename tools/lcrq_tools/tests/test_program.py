@@ -62,12 +62,12 @@ class Builds(unittest.TestCase):
             built = Path(folder) / "lcrqdb"
             words, rows = ["--program", str(built)], [("a", fault_of), ("b", fault_of)]
             built.symlink_to(NO_PROGRAM)
-            status, output, _ = told(lambda: program.run_rows(None, "", rows), "check.py", *words)
+            status, output, _ = told(lambda: program.run_rows(None, rows), "check.py", *words)
             wanted = f"ok    a, by lcrqdb\nok    b, by lcrqdb\n2 right, 0 wrong\n2 rows, each by {built}\n"
             self.assertEqual((status, output), (0, wanted))
             other = Path(f"{built}.by-rattle")
             other.symlink_to(NO_PROGRAM)
-            status, output, _ = told(lambda: program.run_rows(None, "", rows), "check.py", *words)
+            status, output, _ = told(lambda: program.run_rows(None, rows), "check.py", *words)
             self.assertEqual((status, output.splitlines()[2]), (1, "WRONG a, by lcrqdb.by-rattle: it differs"))
             self.assertEqual(output.splitlines()[4:], ["2 right, 2 wrong", f"2 rows, each by {built} and {other}"])
 
