@@ -1,5 +1,8 @@
-"""Where things are: the pages, the examples and the crates, and the built program. Only Python's standard
-library is used.
+"""Where things are: the pages, the examples and the crates, and the built program.
+
+In the repository, and in the archive that is handed out, they lie beside tools/. A package that pip has
+installed takes those around the current folder; where there are none, it has the pages that tools read
+beside its modules, where `release/wheel.py` lays them. Only Python's standard library is used.
 """
 
 import shutil
@@ -7,7 +10,19 @@ from pathlib import Path
 
 from lcrq_tools.faults import Fault
 
-TOP = Path(__file__).resolve().parent.parent.parent
+PACKAGE = Path(__file__).resolve().parent
+
+
+def top_of(package: Path) -> Path:
+    """The folder that has `docs`, and in the repository also `examples` and `crates`, for a package there."""
+    if (package.parent / "pyproject.toml").is_file():  # which pip does not install
+        return package.parent.parent
+    here = Path.cwd()
+    around = (folder for folder in (here, *here.parents) if (folder / "tools" / package.name).is_dir())
+    return next(around, package)
+
+
+TOP = top_of(PACKAGE)
 CRATES, EXAMPLES = TOP / "crates", TOP / "examples"
 # Where the program is: where `rt run` and `rt ci` leave it, and in the archive that is handed out.
 BUILDS_TO = (CRATES / "lcrqdb" / "out" / "lcrqdb", TOP / "bin" / "lcrqdb")

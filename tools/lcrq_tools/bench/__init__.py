@@ -1,1 +1,1 @@
-"""What measures the program: `tools/bench.py`."""
+"""Runs a measurement of the program by its name."""

@@ -30,9 +30,9 @@ from pathlib import Path
 
 from lcrq_tools import manual, model
 from lcrq_tools.checks import command_rows, lessons, rehearsals
+from lcrq_tools.entry import TOOLS, tools_in
 from lcrq_tools.faults import Parser
 from lcrq_tools.look import contracts, definitions
-from lcrq_tools.named import named_in
 from lcrq_tools.program import CRATES, EXAMPLES, TOP, line_of, tried
 
 BLOCK = re.compile(r"^( *)```(\w+)\n(.*?)^ *```$", re.MULTILINE | re.DOTALL)
@@ -229,6 +229,7 @@ def check_names() -> int:
 
 # A script with the name of what it runs, or a file that is in tools/ or was in a folder of its own.
 RUN = re.compile(r"(?:python3 |`)tools/(check|bench)\.py ([a-z]\w*)")
+BY_LCRQ = re.compile(r"`lcrq ([a-z]\w*)")  # a tool of the command that pip installs
 OF_TOOLS = re.compile(r"(?<![\w/.-])(?:tools|checks|bench)/[\w/]+\.(?:py|js|css|html|c)\b")
 FOLDERS = {"check": "checks", "bench": "bench"}  # of the package, by the script that runs what is there
 COMMAND = re.compile(r"^```sh\n(python3 tools/check\.py .*?)^```$", re.MULTILINE | re.DOTALL)
@@ -238,8 +239,9 @@ def unknown_tools(text: str) -> Iterator[str]:
     """The scripts that a text names, and what they run, as far as that is not there."""
     yield from (file for file in OF_TOOLS.findall(text) if not (TOP / file).is_file())
     for script, name in RUN.findall(text):
-        if name not in named_in(FOLDERS[script]):
+        if name not in tools_in(FOLDERS[script]):
             yield f"{name} for tools/{script}.py"
+    yield from (f"{name} for lcrq" for name in BY_LCRQ.findall(text) if name not in TOOLS)
 
 
 def gate_fault() -> str:
@@ -253,7 +255,8 @@ def gate_fault() -> str:
 
 def all_pages() -> list[Path]:
     """All pages, the lessons among them."""
-    return sorted({*TOP.glob("*.md"), *TOP.glob("docs/*.md"), *CRATES.glob("*/README.md"), *EXAMPLES.glob("*.md")})
+    pages = {*TOP.glob("*.md"), *TOP.glob("docs/*.md"), *TOP.glob("tools/*.md"), *EXAMPLES.glob("*.md")}
+    return sorted(pages | {*CRATES.glob("*/README.md")})
 
 
 def check_tools() -> int:

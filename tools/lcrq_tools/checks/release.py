@@ -8,13 +8,15 @@ the page, in one shell a page: each has to succeed, a pipe in each of its parts,
 the page shows after it. What a page calls a script of your own is one that is laid there. The
 commands of all pages run in `examples/` of the repository too. Then each link of a page has to lead
 to a place, and each file that a page, the man page or the README names has to be there; none may
-name a folder that the archive doesn't have, or the command of the kit.
+name a folder that the archive doesn't have, or the command of the kit. From the archive, and from the
+repository, pip has to install the tools without a network, and they have to make a page elsewhere.
 
 Each check prints a line; the status is 1 if one of them fails. It needs pandoc, as tools/release.py
 does. Where man, column, rlwrap, make, jsonschema or a printer of PDF isn't installed, the line of what
 needs it says `skipped`.
 """
 
+import importlib.util
 import os
 import re
 import shutil
@@ -406,6 +408,25 @@ def lay_repository(folder: Path, built: str) -> None:
     (out / Path(built).name).rename(out / "lcrqdb")
 
 
+def install_fault(top: Path, built: str) -> str:
+    """What is wrong with the tools that pip installs from here, or nothing: they make a page elsewhere."""
+    if not importlib.util.find_spec("ensurepip"):
+        return program.Skipped("ensurepip")
+    with tempfile.TemporaryDirectory() as name:
+        folder = Path(name)
+        commands, script = folder / "venv" / "bin", top / "examples" / "session.script"
+        made = ["page", str(script), "--refused", "--program", built, "-o", str(folder / "run.html")]
+        for words in (
+            [sys.executable, "-m", "venv", str(folder / "venv")],
+            [str(commands / "pip"), "install", "--quiet", "--no-index", str(top / "tools")],
+            [str(commands / "lcrq"), *made],
+        ):
+            ended = program.run(words, cwd=folder, timeout=SECONDS)
+            if ended.status:
+                return f"`{' '.join(words)}` ends with status {ended.status}: {ended.errors.strip()}"
+        return "" if (folder / "run.html").is_file() else "it makes no page"
+
+
 def check_repository(pages: dict[str, Page], built: str) -> Iterator[tuple[str, str]]:
     """Runs the commands of the pages in `examples/` of the repository."""
     first = Command("sh", 'export PATH="$PWD/crates/lcrqdb/out:$PWD/tools:$PATH"; cd examples', None)
@@ -416,6 +437,7 @@ def check_repository(pages: dict[str, Page], built: str) -> Iterator[tuple[str, 
         for stem, page in pages.items():
             commands = [it for it in commands_of(page) if "export PATH" not in it.text]
             yield from try_commands(folder, f"repository: {stem}.html", [first, *commands])
+        yield "repository: pip installs the tools", install_fault(folder, built)
 
 
 def check_archive(words: list[str], runs: bool, built: str) -> Iterator[tuple[str, str]]:
@@ -442,6 +464,7 @@ def check_archive(words: list[str], runs: bool, built: str) -> Iterator[tuple[st
             else:
                 run_commands(folder, commands, Path(name) / f"of-{stem}")
         if not words:
+            yield "all: pip installs the tools", install_fault(folder, built)
             yield from check_repository(pages, built)
         for stem, page in pages.items():
             faults = filter(None, (link_fault(page, by_path, link) for link in page.links))

@@ -31,7 +31,7 @@ import tempfile
 from dataclasses import dataclass
 from pathlib import Path
 
-from lcrq_tools import program
+from lcrq_tools import entry, program
 from lcrq_tools.faults import Fault, Parser, say
 from lcrq_tools.options import add_program
 from lcrq_tools.program import EXAMPLES, TOP
@@ -40,6 +40,8 @@ from lcrq_tools.release.release_pages import (
 )
 
 TOOLS = TOP / "tools"
+BUILD = TOOLS / "lcrq_tools" / "release"
+INSTALLED = (TOOLS / "pyproject.toml", BUILD / "__init__.py", BUILD / "wheel.py")  # by which pip installs the tools
 PRINTED = ("guide", "lessons", "answers")  # the pages that are made as PDF
 BROWSERS = ("chromium", "chromium-browser", "google-chrome")
 
@@ -67,6 +69,9 @@ folder:
 
     cp session.script mine.script
     picture.py mine.script -o mine.svg
+{a_page}
+Or `pip install ./tools` in this folder, which needs no network, has them without that PATH: `lcrq`
+lists them, and `lcrq picture` is picture.py.
 """
 A_PAGE = "    page.py mine.script -o mine.html\n"
 
@@ -171,9 +176,12 @@ def named_in(text: str) -> set[Path]:
 
 
 def needed_by(path: Path) -> list[Path]:
-    """The files that a script of tools/ takes: the modules that it imports, each with what makes its
-    folder a package, and the other files of a module's name."""
-    beside = [] if path.parent == TOOLS else [*path.parent.glob(f"{path.stem}.*"), path.parent / "__init__.py"]
+    """The files that a script of tools/ takes: its tool, and the modules that each imports, with what makes
+    their folders packages, and the other files of a module's name."""
+    if path.parent == TOOLS:
+        beside = [entry.file_of(entry.TOOLS[path.stem])] if path.stem in entry.TOOLS else []
+    else:
+        beside = [*path.parent.glob(f"{path.stem}.*"), path.parent / "__init__.py"]
     for package, *names in IMPORTED.findall(path.read_text(encoding="utf-8")):
         module = TOOLS.joinpath(*package.split("."))
         within = [module / f"{name}.py" for name in re.findall(r"\w+", " ".join(names))]
@@ -283,7 +291,7 @@ def readme(version: str, choice: Choice, files: dict[str, bytes]) -> str:
     has = [row for row in rows if any(Path(name).match(row) for name in files)]
     lines = [line for row in has for line in ((row.removesuffix("*"), rows[row]), ("", more.get(row)))]
     contents = "\n".join(f"{row if row else '':<26}{about}" for row, about in lines if about)
-    return README.format(version=version, contents=contents) + (A_PAGE if has_pages else "")
+    return README.format(version=version, contents=contents, a_page=A_PAGE if has_pages else "")
 
 
 def files_of(built: str, version: str, seconds: int, choice: Choice, with_pdf: bool) -> dict[str, bytes]:
@@ -293,6 +301,7 @@ def files_of(built: str, version: str, seconds: int, choice: Choice, with_pdf: b
     files = {f"docs/{page}.html": page_of(page, version, choice, run_pages) for page in choice.pages()}
     scripts = scripts_of([*(page.decode() for page in files.values()), README, A_PAGE if run_pages else ""])
     files |= scripts | pages_read_by(scripts, choice)
+    files |= {str(path.relative_to(TOP)): path.read_bytes() for path in INSTALLED}
     files |= {f"examples/{name}": data for name, data in examples.items()}
     if with_pdf:
         files |= {f"{name.removesuffix('html')}pdf": pdf_of(files[name]) for name in printed_of(files, choice)}

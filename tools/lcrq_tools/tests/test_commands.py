@@ -12,7 +12,7 @@ from collections.abc import Callable, Sequence
 from pathlib import Path
 from unittest import mock
 
-from lcrq_tools import faults, named
+from lcrq_tools import entry, faults
 from lcrq_tools.draw import moment, picture
 from lcrq_tools.page import page
 from lcrq_tools.port import conform
@@ -22,21 +22,15 @@ from lcrq_tools.tests.stubs import NO_PROGRAM, told, with_program
 
 TOOLS = TOP / "tools"
 RUNNERS = {"check.py": "checks", "bench.py": "bench"}
-SCRIPTS = sorted(path.name for path in TOOLS.glob("*.py") if path.name not in RUNNERS)
-
-
-def module_of(script: str) -> str:
-    """The module whose `main` a script of tools/ calls."""
-    lines = (TOOLS / script).read_text(encoding="utf-8").splitlines()
-    return next(line.split()[1] for line in lines if line.endswith(" import main"))
 
 
 def mains() -> dict[str, Callable[..., int]]:
     """The `main` of each script, of each check and of each measurement, by the words that call it."""
-    modules = {script: module_of(script) for script in SCRIPTS}
-    for runner, folder in RUNNERS.items():
-        modules |= {f"{runner} {name}": f"lcrq_tools.{folder}.{name}" for name in named.named_in(folder)}
-    return {words: importlib.import_module(module).main for words, module in modules.items()}
+    modules = {f"{name}.py": module for name, module in entry.TOOLS.items()}
+    for runner in RUNNERS:
+        folder = modules.pop(runner)
+        modules |= {f"{runner} {name}": module for name, module in entry.tools_in(folder).items()}
+    return {words: importlib.import_module(f"lcrq_tools.{module}").main for words, module in modules.items()}
 
 
 def example_of(text: str) -> list[str]:
@@ -66,6 +60,12 @@ class Helps(unittest.TestCase):
                 example, called = example_of(output), words.split(" ")
                 self.assertEqual(example[:len(called)], called)
                 self.check_reads(main, words, example[len(called):])
+
+    def test_each_says_what_the_tool_makes(self) -> None:
+        for words, main in mains().items():
+            with self.subTest(words):
+                about = (sys.modules[main.__module__].__doc__ or "").partition("\n\n")[0]
+                self.assertIn(" ".join(about.split()), " ".join(told(main, words, "--help")[1].split()))
 
     def check_reads(self, main: Callable[..., int], words: str, example: list[str]) -> None:
         """That the command line of an example has no fault."""
@@ -134,27 +134,66 @@ class Faults(unittest.TestCase):
         self.assertEqual(faults.text_of(faults.Fault("what is wrong")), "what is wrong")
 
 
-class Runners(unittest.TestCase):
-    """`check.py` and `bench.py`."""
+class Names(unittest.TestCase):
+    """Tools by their names."""
+
+    def names_in(self, output: str) -> list[str]:
+        """The names that are listed."""
+        return [line.split()[0] for line in output.splitlines()[2:-2] if line[0] != " "]
 
     def test_without_a_name_all_are_listed(self) -> None:
-        for runner, folder in RUNNERS.items():
-            status, output, _ = told(lambda folder=folder: named.main(folder), runner)
-            names = [line.split()[0] for line in output.splitlines()[2:] if line[0] != " "]
-            self.assertEqual((status, names), (0, [*named.named_in(folder)]))
-            self.assertTrue(all(named.named_in(folder).values()))
+        for words in ("", "--help", "-h"):
+            status, output, _ = told(entry.lcrq, "/bin/lcrq", *words.split())
+            self.assertEqual((status, self.names_in(output)), (0, [*entry.TOOLS]))
+            self.assertIn("\nbench           Runs a measurement of the program by its name.\n", output)
+            self.assertTrue(output.startswith("usage: lcrq NAME [arguments]\n"))
+
+    def test_a_folder_lists_its_own(self) -> None:
+        for name, folder in (("check", "checks"), ("bench", "bench")):
+            status, output, _ = told(entry.lcrq, "lcrq", name)
+            self.assertEqual((status, self.names_in(output)), (0, [*entry.tools_in(folder)]))
+
+    def test_each_says_in_a_sentence_what_it_is(self) -> None:
+        modules = [*entry.TOOLS.values(), *entry.tools_in("checks").values(), *entry.tools_in("bench").values()]
+        for module in modules:
+            self.assertRegex(entry.about(module), r"^[A-Z].*\.$")
 
     def test_a_wrong_name_is_a_fault(self) -> None:
-        said = "check.py: nowhere: no such name; without one they are listed\n"
-        self.assertEqual(told(lambda: named.main("checks"), "check.py", "nowhere"), (1, "", said))
+        said = "nowhere: no such name; without one they are listed\n"
+        self.assertEqual(told(entry.lcrq, "lcrq", "nowhere"), (1, "", f"lcrq: {said}"))
+        self.assertEqual(told(entry.lcrq, "lcrq", "check", "nowhere"), (1, "", f"lcrq check: {said}"))
 
     def test_a_module_of_parts_is_none(self) -> None:
-        self.assertIn("pictures", named.named_in("checks"))
-        self.assertNotIn("runs", named.named_in("checks"))
+        self.assertIn("pictures", entry.tools_in("checks"))
+        self.assertNotIn("runs", entry.tools_in("checks"))
+
+    def test_a_tool_is_called_by_its_words(self) -> None:
+        for words in (["moment"], ["check", "pages"]):
+            status, output, _ = told(entry.lcrq, "lcrq", *words, "--help")
+            self.assertEqual((status, output.split(" [")[0]), (0, f"usage: lcrq {' '.join(words)}"))
+            self.assertEqual(example_of(output)[:len(words) + 1], ["lcrq", *words])
+
+    def test_what_takes_the_repository_says_so(self) -> None:
+        with mock.patch.object(entry, "CRATES", Path("/nowhere")):
+            for words in (["check", "pages"], ["lines"], ["release"], ["quick_build"], ["bench", "live"]):
+                said = "this takes the repository of lcrqdb, and the current folder is not in one"
+                self.assertEqual(told(entry.lcrq, "lcrq", *words), (1, "", f"lcrq {' '.join(words)}: {said}\n"))
+
+    def test_the_repository_around_has_its_own_tools(self) -> None:
+        self.assertIsNone(entry.script_around(["check", "pages"]))
+        with mock.patch.object(entry, "PACKAGE", Path("/site/lcrq_tools")):
+            self.assertEqual(entry.script_around(["check", "pages"]), TOOLS / "check.py")
+            for words in ("", "picture a.script", "nowhere"):
+                self.assertIsNone(entry.script_around(words.split()))
 
 
 class Scripts(unittest.TestCase):
     """The scripts of tools/."""
+
+    def test_each_tool_has_one_that_names_it(self) -> None:
+        texts = {path.stem: path.read_text(encoding="utf-8") for path in TOOLS.glob("*.py")}
+        head = "#!/usr/bin/env python3\nfrom lcrq_tools.entry import script\n"
+        self.assertEqual(texts, {name: f'{head}script("{name}")\n' for name in entry.TOOLS})
 
     def test_they_run_in_another_folder(self) -> None:
         with tempfile.TemporaryDirectory() as folder:
@@ -165,6 +204,6 @@ class Scripts(unittest.TestCase):
                 self.assertTrue(ended.stdout.startswith(f"usage: {script}"))
 
     def test_no_module_edits_where_modules_are_looked_for(self) -> None:
-        for path in TOOLS.rglob("*.py"):
+        for path in [*TOOLS.glob("*.py"), *(TOOLS / "lcrq_tools").rglob("*.py")]:
             if path.parent.name != "tests":
                 self.assertNotIn("sys.path", path.read_text(encoding="utf-8"), path.name)

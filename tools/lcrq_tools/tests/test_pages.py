@@ -42,12 +42,13 @@ class Tools(unittest.TestCase):
 
     def test_what_is_there_is_no_fault(self) -> None:
         text = "`tools/check.py pages`, `python3 tools/bench.py lock --runs 3`, `tools/lcrq_tools/page/page.js`"
-        self.assertEqual([*pages.unknown_tools(text)], [])
+        self.assertEqual([*pages.unknown_tools(text + ", `lcrq picture`, `lcrq`")], [])
 
     def test_what_is_not_there_is_named(self) -> None:
         text = "`checks/pages.py`, python3 tools/check.py nowhere, `tools/nowhere.py`, `tools/bench.py runs`"
         wanted = ["checks/pages.py", "tools/nowhere.py", "nowhere for tools/check.py", "runs for tools/bench.py"]
         self.assertEqual([*pages.unknown_tools(text)], wanted)
+        self.assertEqual([*pages.unknown_tools("`lcrq nowhere a.script`")], ["nowhere for lcrq"])
 
     def test_a_name_that_is_a_word_of_a_sentence_is_none(self) -> None:
         self.assertEqual([*pages.unknown_tools("`tools/check.py` runs a check by its name")], [])

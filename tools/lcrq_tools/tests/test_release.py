@@ -1,14 +1,15 @@
-"""What the archive takes of the scripts, and passages that read otherwise there."""
+"""What the archive takes of the scripts, what pip installs, and passages that read otherwise in the archive."""
 
 import subprocess
 import sys
 import tempfile
 import unittest
+import zipfile
 from pathlib import Path
 
 from lcrq_tools.faults import Fault
 from lcrq_tools.program import TOP
-from lcrq_tools.release import release
+from lcrq_tools.release import release, wheel
 from lcrq_tools.release.release_pages import LESSONS, Choice, read_for
 
 ALL, ONE = Choice(tuple(LESSONS), "with"), Choice((1,), "with")
@@ -32,7 +33,7 @@ class Scripts(unittest.TestCase):
 
     def test_a_module_brings_its_other_files(self) -> None:
         files = release.scripts_of(["page.py"])
-        for name in ("page.css", "page.html", "page.js", "__init__.py"):
+        for name in ("page.py", "page.css", "page.html", "page.js", "__init__.py"):
             self.assertIn(f"tools/lcrq_tools/page/{name}", files)
         self.assertFalse([name for name in files if "/checks/" in name or "/tests/" in name or "/port/" in name])
 
@@ -46,6 +47,37 @@ class Scripts(unittest.TestCase):
         for text in ("99", "x", "", "1,,2"):
             with self.subTest(text), self.assertRaisesRegex(Exception, "no lesson has the number"):
                 release.lessons_in(text)
+
+
+class Wheels(unittest.TestCase):
+    """What pip installs."""
+
+    def test_it_has_modules_and_pages_and_no_tests(self) -> None:
+        files = wheel.modules()
+        for name in ("entry.py", "page/page.css", "checks/rehearsed/stdout", "docs/MODEL.md", "docs/trace.schema.json"):
+            self.assertIn(f"lcrq_tools/{name}", files)
+        self.assertFalse([name for name in files if "/tests/" in name or "__pycache__" in name])
+
+    def test_it_says_what_the_project_says(self) -> None:
+        lines = wheel.metadata().splitlines()
+        self.assertLessEqual({"Name: lcrq-tools", "Requires-Python: >=3.11", "Provides-Extra: schema"}, {*lines})
+        self.assertIn('Requires-Dist: jsonschema; extra == "schema"', lines)
+
+    def test_each_file_is_recorded_and_the_command_is_there(self) -> None:
+        with tempfile.TemporaryDirectory() as folder:
+            name = wheel.build_wheel(folder)
+            with zipfile.ZipFile(Path(folder) / name) as made:
+                names, about = made.namelist(), name.removesuffix("-py3-none-any.whl") + ".dist-info"
+                rows = made.read(f"{about}/RECORD").decode().splitlines()
+                commands = made.read(f"{about}/entry_points.txt").decode()
+        self.assertRegex(name, r"^lcrq_tools-\d+\.\d+\.\d+-py3-none-any\.whl$")
+        self.assertEqual([row.split(",")[0] for row in rows], names)
+        self.assertEqual(commands, "[console_scripts]\nlcrq = lcrq_tools.entry:lcrq\n")
+
+    def test_an_editable_one_leads_to_the_modules(self) -> None:
+        with tempfile.TemporaryDirectory() as folder:
+            with zipfile.ZipFile(Path(folder) / wheel.build_editable(folder)) as made:
+                self.assertEqual(made.read("lcrq_tools.pth").decode(), f"{TOP / 'tools'}\n")
 
 
 class Passages(unittest.TestCase):
