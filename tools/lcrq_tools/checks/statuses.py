@@ -1,20 +1,27 @@
-"""Runs the built program itself: its options, exit statuses, standard error and traces.
+"""Runs the built program itself: its options, exit statuses, standard error and traces; and the tools as
+their help shows.
 
     python3 tools/check.py statuses [--program P]
 
-`rt ci` gives the program one command line; this gives it others, and compares. The status is 1 if
-anything differs. Only Python's standard library is used.
+`rt ci` gives the program one command line; this gives it others, and compares. Each tool that takes a
+moment does what the example in its help says, in a copy of `examples/`. The status is 1 if anything
+differs. Only Python's standard library is used; where `jsonschema` isn't there, a line says `skipped`.
 """
 
 import os
+import shlex
+import shutil
 import subprocess
+import sys
 import tempfile
+import tomllib
 from collections.abc import Iterator, Sequence
+from pathlib import Path
 from typing import IO
 
-from lcrq_tools import manual, program
+from lcrq_tools import entry, manual, program, schema
 from lcrq_tools.checks import command_rows
-from lcrq_tools.program import EXAMPLES
+from lcrq_tools.program import EXAMPLES, TOP, Skipped
 
 Answer = tuple[int, str, str]  # a status, standard output and standard error
 # A name, the words, standard input, the status, and how standard output and standard error begin.
@@ -249,6 +256,49 @@ def help_fault(built: str) -> str:
     return ", ".join(sorted(command_rows.listed_in(end) ^ {*manual.FORMS, *manual.PLACES}))
 
 
+# ---- Tools ---------------------------------------------------------------------------------------
+
+# The tools whose examples are run, each with the status that comes of it: conform.py's log differs. The gate
+# runs the checks themselves; a measurement, an archive and a build take long.
+LEFT_OUT = ("bench", "check", "gate", "quick_build", "release")
+SHOWN = {tool: 0 for tool in entry.TOOLS if tool not in LEFT_OUT} | {"conform": 1}
+
+
+def version_fault(built: str) -> str:
+    """What is wrong with the version of what pip installs, or nothing: it is the program's."""
+    project = tomllib.loads((TOP / "tools" / "pyproject.toml").read_text(encoding="utf-8"))["project"]
+    said = run(built, ["--version"])[1]
+    return "" if said == f"lcrqdb {project['version']}\n" else f"the program is {said.strip()}"
+
+
+def example_of(tool: str, folder: Path) -> list[str]:
+    """The words of the example in a tool's help."""
+    ended = program.run([sys.executable, str(TOP / "tools" / f"{tool}.py"), "--help"], cwd=folder)
+    return shlex.split(ended.output.decode().rpartition("example:\n")[2])
+
+
+def example_fault(tool: str, built: str) -> str:
+    """What is wrong with what comes of the example in a tool's help, or nothing."""
+    if tool == "schema" and not schema.HAS_LIBRARY:
+        return Skipped("jsonschema")
+    with tempfile.TemporaryDirectory() as name:
+        folder = Path(name) / "examples"
+        shutil.copytree(EXAMPLES, folder)
+        script, *words = example_of(tool, folder)
+        if script != f"{tool}.py":
+            return f"it begins with {script}"
+        takes_program = [] if tool == "schema" or entry.TOOLS[tool].startswith("look.") else ["--program", built]
+        ended = program.run([sys.executable, str(TOP / "tools" / script), *words, *takes_program], cwd=folder)
+        made = [word for option, word in zip(words, words[1:]) if option == "-o"]
+        missing = [word for word in made if not (folder / word).exists()]
+    if missing:
+        return f"it makes no {missing[0]}"
+    return "" if ended.status == SHOWN[tool] else f"status {ended.status}: {ended.errors.strip()}"
+
+
+# ---- All -----------------------------------------------------------------------------------------
+
+
 def all_checks(built: str) -> Iterator[tuple[str, str]]:
     """The checks, each a name and what is wrong, or nothing."""
     for row in ROWS:
@@ -264,6 +314,9 @@ def all_checks(built: str) -> Iterator[tuple[str, str]]:
     yield "a full device", full_device(built, ["run", "-"], MANY)
     saving = ["load", str(EXAMPLES / "poised.trace"), "--trace"]
     yield "a full device for a saved session", full_device(built, saving, "")
+    yield "the version of what pip installs", version_fault(built)
+    for tool in SHOWN:
+        yield f"the example of {tool}.py --help", example_fault(tool, str(Path(built).absolute()))
 
 
 def main() -> int:
