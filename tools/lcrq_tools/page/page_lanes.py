@@ -144,7 +144,7 @@ class Lanes:
         end = max((self.at[dot.lane] for dot in row.dots), default=x)
         lines = [
             element("rect", class_="ground", x=1, y=1 - HALF, width=self.width - 2, height=LINE - 2, rx=4),
-            words_at(self.numbers, 4, "", SMALL, GREY, "end").replace("<text", '<text class="number"'),
+            element("text", "", class_="number", x=self.numbers, y=4, font_size=SMALL, fill=GREY, text_anchor="end"),
             self.marks.in_row(row.viewer, self.numbers + 6),
             element("line", x1=x, y1=0, x2=end, y2=0, stroke=colour, stroke_opacity=0.6),
             words_at(x - 9, 4, row.point, PLAIN, DARK, "end"),

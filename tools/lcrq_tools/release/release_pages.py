@@ -22,6 +22,7 @@ import time
 from collections.abc import Callable
 from dataclasses import dataclass
 from pathlib import Path
+from string import Template
 from typing import Any, NotRequired, TypedDict
 
 from lcrq_tools import program
@@ -36,45 +37,7 @@ HANDED_OUT = (".script", ".history", ".trace", ".report", ".svg")  # of the exam
 PORT = EXAMPLES / "port"  # the worked port, which the manual names
 MARKS = {"repository": "archive", "all lessons": "chosen lessons"}
 ANSWER = "<details><summary>Answer</summary>"  # how the answer to an exercise begins
-
-TEMPLATE = """\
-<!DOCTYPE html>
-<html lang="en">
-<head>
-<meta charset="utf-8">
-<meta name="viewport" content="width=device-width, initial-scale=1">
-<title>$pagetitle$</title>
-<style>
-body { max-width: 66rem; margin: 0 auto; padding: 1rem; font: 1rem/1.5 sans-serif; }
-body { color: #111; background: #fff; }
-h1, h2, h3 { line-height: 1.2; margin: 2rem 0 0.5rem; }
-pre, table { overflow-x: auto; }
-pre { padding: 0.5rem; background: #f3f3f3; line-height: 1.3; }
-code { font-family: monospace; font-size: 0.85rem; }
-code.short { white-space: nowrap; }
-table { display: block; border-collapse: collapse; margin: 1rem 0; }
-th, td { border: 1px solid #bbb; padding: 0.2rem 0.5rem; text-align: left; vertical-align: top; }
-img { max-width: 100%; }
-details { margin: 1rem 0; }
-@media print {
-  body { padding: 0; font-size: 0.75rem; }
-  code { font-size: 0.55rem; }
-  pre { white-space: pre-wrap; }
-  h1, h2, h3 { break-after: avoid; }
-  tr, img { break-inside: avoid; }
-  nav, #contents { display: none; }
-}
-</style>
-</head>
-<body>
-<nav>NAV</nav>
-<details id="contents"><summary>Contents</summary>
-$toc$
-</details>
-$body$
-</body>
-</html>
-"""
+TEMPLATE, STYLE = (Path(__file__).with_suffix(ending) for ending in (".html", ".css"))
 
 # ---- What is chosen ------------------------------------------------------------------------------
 
@@ -389,6 +352,15 @@ def answers_in(blocks: list[Element]) -> list[Element]:
 # ---- Pages ---------------------------------------------------------------------------------------
 
 
+def template_of(page: str, choice: Choice) -> str:
+    """The template by which pandoc makes a page, with the style and the links to the other pages. What has
+    two dollars in the file is a variable of pandoc's."""
+    shown = [name for name in choice.pages() if name in (page, "manual", "recipes", "model", "guide", "lessons")]
+    names = (name if name == page else f'<a href="{name}.html">{name}</a>' for name in shown)
+    template = Template(TEMPLATE.read_text(encoding="utf-8"))
+    return template.substitute(style=STYLE.read_text(encoding="utf-8").rstrip(), nav=" · ".join(names))
+
+
 def page_of(page: str, version: str, choice: Choice, run_pages: list[str]) -> bytes:
     """A page of HTML. After the heading of a lesson come links to the pages of its runs."""
     whole = Part(choice, page, choice.pages()[page][0]).document()
@@ -403,10 +375,8 @@ def page_of(page: str, version: str, choice: Choice, run_pages: list[str]) -> by
             links = [link_to(f"../examples/{name}", name) for name in runs]
             blocks.append({"t": "Para", "c": [*words("Step by step: "), *joined(links)]})
         blocks += part[1:]
-    shown = [name for name in choice.pages() if name in (page, "manual", "recipes", "model", "guide", "lessons")]
-    names = (name if name == page else f'<a href="{name}.html">{name}</a>' for name in shown)
     with tempfile.NamedTemporaryFile("w", suffix=".html", encoding="utf-8") as template:
-        template.write(TEMPLATE.replace("NAV", " · ".join(names)))
+        template.write(template_of(page, choice))
         template.flush()
         options = ["-f", "json", "-t", "html5", "--standalone", f"--template={template.name}"]
         options += ["--toc", "--toc-depth=2", "-M", f"pagetitle=lcrqdb {version}: {page}"]

@@ -1,5 +1,6 @@
-"""What the archive takes of the scripts, what pip installs, and passages that read otherwise in the archive."""
+"""What the archive takes of the scripts and what pip installs, passages that read otherwise there, and templates."""
 
+import re
 import subprocess
 import sys
 import tempfile
@@ -9,8 +10,8 @@ from pathlib import Path
 
 from lcrq_tools.faults import Fault
 from lcrq_tools.program import TOP
-from lcrq_tools.release import release, wheel
-from lcrq_tools.release.release_pages import LESSONS, Choice, read_for
+from lcrq_tools.release import release, release_pages, wheel
+from lcrq_tools.release.release_pages import LESSONS, STYLE, TEMPLATE, Choice, read_for, template_of
 
 ALL, ONE = Choice(tuple(LESSONS), "with"), Choice((1,), "with")
 
@@ -36,6 +37,7 @@ class Scripts(unittest.TestCase):
         for name in ("page.py", "page.css", "page.html", "page.js", "__init__.py"):
             self.assertIn(f"tools/lcrq_tools/page/{name}", files)
         self.assertFalse([name for name in files if "/checks/" in name or "/tests/" in name or "/port/" in name])
+        self.assertLessEqual({TEMPLATE, STYLE}, {*release.needed_by(Path(release_pages.__file__))})
 
     def test_a_script_that_is_not_there_is_a_fault(self) -> None:
         with self.assertRaisesRegex(Fault, "^a page names tools/nowhere.py, which is not there$"):
@@ -104,3 +106,21 @@ class Passages(unittest.TestCase):
     def test_a_missing_page_is_a_fault(self) -> None:
         with self.assertRaisesRegex(Fault, "^nowhere.md can't be read: No such file or directory$"):
             read_for(ALL, Path("nowhere.md"))
+
+
+class Templates(unittest.TestCase):
+    """What pandoc makes a page of."""
+
+    def test_pandoc_gets_the_style_and_fills_in_the_rest(self) -> None:
+        text = template_of("guide", ALL)
+        self.assertEqual(re.findall(r"\$\w*\$?", text), ["$pagetitle$", "$toc$", "$body$"])
+        self.assertIn(f"<style>\n{STYLE.read_text(encoding='utf-8')}</style>\n", text)
+
+    def test_a_page_leads_to_the_others(self) -> None:
+        apart = Choice((1,), "apart")
+        rows = {"guide": ["manual", "recipes", "model", "lessons"]}
+        rows |= {"answers": ["manual", "recipes", "model", "guide", "lessons"]}
+        for page, others in rows.items():
+            nav = template_of(page, apart).partition("<nav>")[2].partition("</nav>")[0]
+            self.assertEqual(re.findall(r'<a href="(\w+)\.html">\1</a>', nav), others)
+            self.assertIn(page, nav.split(" · "))
