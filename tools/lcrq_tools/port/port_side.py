@@ -45,7 +45,8 @@ def put(start: Start, place: str, content: str) -> None:
             start["array"]["tail"] = int(content)
         case "acell":
             others = [slot for slot in start["array"]["cells"] if slot[0] != int(rest[0])]
-            start["array"]["cells"] = sorted(others + [freeze.slot_of(int(rest[0]), content)] * (content != "empty"))
+            filled = [] if content == "empty" else [freeze.slot_of(int(rest[0]), content)]
+            start["array"]["cells"] = sorted(others + filled)
         case _:
             put_into(segment_at(start, rest[0]), kind, [*map(int, rest[1:])], content.split(" "))
 

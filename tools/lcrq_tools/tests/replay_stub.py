@@ -1,0 +1,144 @@
+"""What tests of the tools for ports put in the place of a run of the program: it makes the steps of a list."""
+
+import json
+from collections.abc import Mapping, Sequence
+from pathlib import Path
+
+from lcrq_tools import machine, model
+from lcrq_tools.port import port_log
+from lcrq_tools.port.port_compare import Comparison
+from lcrq_tools.port.port_log import Record
+from lcrq_tools.port.port_replay import Replay
+
+Made = tuple[str, str, str]  # the line that makes a step, its record behind that, and the reply to `actor A` after it
+
+LABELS = set(model.read(model.PAGE.read_text(encoding="utf-8"))[0])
+
+
+def actor(point: str, call: str = "enq 7", **words: object) -> str:
+    """The reply to `actor A`, with these words in the place of those of an idle actor."""
+    values = dict.fromkeys(port_log.WORDS, "0") | {"crq": "0.0", "new": "0.0", "next": "0.0", "val": "none"}
+    values |= {word: str(it) for word, it in words.items()}
+    return " ".join(["actor", point, call, *(f"{word} {it}" for word, it in values.items())])
+
+
+IDLE = actor("Idle", "none")
+# Actor 1 enqueues 7 into the fresh world with rings of 2.
+ENQUEUE: list[Made] = [
+    ("enq 1 7", "-; none; -; -", actor("E1")),
+    ("go 1", "qtail; read; 0.0; -", actor("E2")),
+    ("go 1", "next 0.0; read; none; -", actor("E4")),
+    ("go 1", "tail 0.0; wrote; open 0; -", actor("E5")),
+    ("go 1", "value 0.0 0; read; none; -", actor("E6")),
+    ("go 1", "index 0.0 0; read; 1 0; -", actor("E8", safe=1)),
+    ("go 1", "cell 0.0 0; wrote; won; enqueued", IDLE),
+]
+# The log of a port that does the same, with names of its own.
+LOG = [
+    "1 1 enq 7",
+    "2 1 E1 qtail; read; root",
+    "3 1 E2 next root; read; NULL",
+    "4 1 E4 tail root; wrote; open 0; t 0 closed 0",
+    "5 1 E5 none",
+    "6 1 - index root 0; -; 1 0",
+    "7 1 E8 won; enqueued",
+]
+# A start of two actors over rings of 2, as JSON.
+START = {
+    "version": 2, "ring": 2, "events": [], "undone": [], "marks": [],
+    "start": {
+        "actors": [machine.actor(), machine.actor()], "segments": [[machine.segment(2, 0)], [], []],
+        "qhead": [0, 0], "qtail": [0, 0], "array": {"head": 0, "tail": 0, "cells": []},
+    },
+}
+
+
+class Told(Replay):
+    """A run that makes these steps and no others. After a line of `forks` it goes on with other ones."""
+
+    def __init__(
+        self, steps: Sequence[Made] = ENQUEUE, shown: Mapping[str, str] = {}, forks: Mapping[str, list[Made]] = {}
+    ) -> None:
+        self.steps, self.shown, self.forks = [*steps], shown, forks
+        self.made = 0  # how many of them are live
+        self.asked: list[str] = []
+        self.opened: list[str] = []  # starts, over which it went on
+        self.program, self.folder, self.driven = "lcrqdb", Path("/nowhere"), None
+        self.options = ["run", "-", "--actors", "2", "--ring", "2"]
+        self.entries: list[tuple[str, str]] = []
+        self.lines: list[str] = []
+        self.before, self.first, self.ring, self.states = 0, 0, 2, [IDLE, IDLE]
+
+    def ask(self, lines: list[str]) -> list[str]:
+        """The replies to these lines."""
+        self.asked += lines
+        return [self.reply(line) for line in lines]
+
+    def reply(self, line: str) -> str:
+        """The reply to a line."""
+        word, _, rest = line.partition(" ")
+        match word:
+            case "show":
+                return self.shown.get(line, "refused 19 NoSuchPlace")
+            case "writer":
+                return self.writer_of(rest)
+            case "actor":
+                own = [state for event, _, state in self.steps[: self.made] if event.split(" ")[1] == rest]
+                return own[-1] if own else IDLE
+            case "step":
+                return self.record_of(int(rest))
+            case "back" | "forward":
+                self.made += int(rest) if word == "forward" else -int(rest)
+                return f"at {self.made} 0"
+        return self.event(line)
+
+    def record_of(self, number: int) -> str:
+        """The record of a step."""
+        if number > self.made:
+            return f"refused 12 NoSuchStep {self.made}"
+        event, entry, _ = self.steps[number - 1]
+        return f"step {number}; {event}; {entry}"
+
+    def writer_of(self, place: str) -> str:
+        """The last live step that wrote just this place."""
+        entries = [entry for _, entry, _ in self.steps[: self.made]]
+        writers = [at for at, entry in enumerate(entries, 1) if entry.startswith(f"{place}; wrote; ")]
+        return f"writer {writers[-1]}" if writers else "writer none"
+
+    def event(self, line: str) -> str:
+        """The reply to a line that makes a step."""
+        self.steps = self.steps[: self.made] + self.forks[line] if line in self.forks else self.steps
+        wanted = self.steps[self.made][0] if self.made < len(self.steps) else ""
+        if line == wanted:
+            self.made += 1
+            return f"ok {self.made}"
+        if line.split(" ")[0] in port_log.CALLS:
+            return "refused 2 NotIdle"
+        return "refused 4 NeedsChoice" if wanted.startswith("starve ") else "refused 3 Idle"
+
+    def start(self) -> str:
+        """The world as a start, which is always the same here."""
+        return json.dumps(START)
+
+    def open_start(self, start: str) -> None:
+        """Goes on over a start."""
+        self.opened.append(start)
+        self.before, self.lines = len(self.entries), []
+        self.steps, self.made = self.steps[self.made:], 0
+
+
+def records_of(*texts: str) -> list[Record]:
+    """The records of a log whose actors have the model's numbers."""
+    records = [port_log.record_of(f"a.log:{at}", text, LABELS) for at, text in enumerate(texts, 1)]
+    port_log.number_actors(records)
+    return records
+
+
+def compared(*texts: str, replay: Replay | None = None) -> Comparison:
+    """A comparison of these records, at its begin."""
+    return Comparison(replay or Told(), records_of(*texts))
+
+
+def with_record(at: int, text: str) -> list[str]:
+    """The log with this record in the place of one, which is its last one then."""
+    return [*LOG[:at], text]

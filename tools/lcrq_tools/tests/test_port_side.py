@@ -1,0 +1,164 @@
+"""Taking a port's side: what is changed in a start, which changes are tried, and what goes on."""
+
+import copy
+import json
+import tempfile
+import unittest
+from collections.abc import Callable
+from pathlib import Path
+from typing import cast
+from unittest import mock
+
+from lcrq_tools import program
+from lcrq_tools.port import port_side
+from lcrq_tools.port.port_side import Change, Side, put
+from lcrq_tools.program import Ended
+from lcrq_tools.start.flaws import IDLE as IDLE_ACTOR, Segment, Start, with_words
+from lcrq_tools.tests.replay_stub import ENQUEUE, IDLE, LOG, START, Told, actor, compared, with_record
+
+SHOWN = {"show tail 0.0": "is open 0"}
+CALLED = with_words(IDLE_ACTOR, {"pc": "E4", "op": ["enq", 7]})  # actor 1 where the model is in these tests
+
+
+def start() -> Start:
+    """The start."""
+    return cast(Start, copy.deepcopy(START["start"]))
+
+
+def side(*texts: str, told: Told | None = None) -> Side:
+    """The side of the port at the first difference of these records, where actor 1 is at E4."""
+    comparison = compared(*texts, replay=told or Told())
+    found = comparison.difference()
+    assert found
+    made = Side(comparison, found)
+    made.world["start"]["actors"][0] = CALLED
+    return made
+
+
+class Puts(unittest.TestCase):
+    """What is at a place of a start."""
+
+    def test_a_place_has_its_new_content_and_no_other(self) -> None:
+        def ring(it: Start) -> Segment:
+            return it["segments"][0][0]
+
+        rows: list[tuple[str, str, str, Callable[[Start], object], object]] = [
+            ("qhead", "0.0", "2.1", lambda it: it["qhead"], [2, 1]),
+            ("qtail", "0.0", "1.0", lambda it: it["qtail"], [1, 0]),
+            ("ahead", "0", "3", lambda it: it["array"]["head"], 3),
+            ("atail", "0", "4", lambda it: it["array"]["tail"], 4),
+            ("head 0.0", "0", "5", lambda it: ring(it)["head"], 5),
+            ("tail 0.0", "open 0", "closed 6", lambda it: (ring(it)["closed"], ring(it)["tail"]), (True, 6)),
+            ("next 0.0", "none", "1.0", lambda it: ring(it)["next"], [1, 0]),
+            ("value 0.0 1", "none", "9", lambda it: ring(it)["cells"][1], [True, 1, 9]),
+            ("index 0.0 1", "1 1", "0 3", lambda it: ring(it)["cells"][1], [False, 3, None]),
+            ("cell 0.0 1", "1 1 none", "0 3 9", lambda it: ring(it)["cells"][1], [False, 3, 9]),
+            ("acell 3", "empty", "value 9", lambda it: it["array"]["cells"], [[3, 9]]),
+        ]
+        for place, old, new, found, wanted in rows:
+            with self.subTest(place):
+                made = start()
+                put(made, place, new)
+                self.assertEqual(found(made), wanted)
+                put(made, place, old)
+                self.assertEqual(made, start())
+
+    def test_slots_of_the_array_stay_in_their_order(self) -> None:
+        made = start()
+        rows = [("acell 4", "value 9"), ("acell 1", "top"), ("acell 4", "value 8"), ("acell 2", "empty")]
+        for place, content in rows:
+            put(made, place, content)
+        self.assertEqual(made["array"]["cells"], [[1, "top"], [4, 8]])
+        put(made, "acell 1", "empty")
+        self.assertEqual(made["array"]["cells"], [[4, 8]])
+
+
+class Changes(unittest.TestCase):
+    """The changes that are tried."""
+
+    def test_a_call_has_its_actor_idle(self) -> None:
+        [change] = side(*with_record(2, "3 1 deq")).changes()
+        self.assertEqual((change.said, change.start["start"]["actors"][0]), ("the actor is in no call", IDLE_ACTOR))
+
+    def test_another_line_has_the_actor_there_with_few_other_words(self) -> None:
+        said = [it.said for it in side(*with_record(3, "4 1 E5 value root 0"), told=Told(shown=SHOWN)).changes()]
+        self.assertEqual(said[:3], ["pc E5", "pc E5, val null", "pc E5, val 0"])
+        words = port_side.one_word(IDLE_ACTOR)
+        pairs = len(words) * (len(words) - 1) // 2
+        self.assertEqual(sum(it.startswith("pc E5") for it in said), 1 + len(words) + pairs)
+        self.assertEqual(said[-1], "tail 0.0 is closed 0")
+
+    def test_another_place_without_a_label_may_be_of_any_point(self) -> None:
+        said = [it.said for it in side(*with_record(3, "4 1 head root")).changes()]
+        self.assertEqual(said[:2], ["pc E1", "pc E2"])
+
+    def test_contents_are_what_the_port_found_first(self) -> None:
+        rows = {
+            "4 1 E4 tail root; wrote; open 5": ["tail 0.0 is open 5", "tail 0.0 is open 0", "tail 0.0 is closed 0"],
+            "4 1 E4 tail root; wrote; closed": ["tail 0.0 is open 0", "tail 0.0 is closed 0"],
+        }
+        for text, said in rows.items():
+            self.assertEqual([it.said for it in side(*with_record(3, text), told=Told(shown=SHOWN)).changes()], said)
+
+    def test_a_swap_that_has_to_lose_finds_another_cell_and_it_is_put_back(self) -> None:
+        told = Told(shown={"show cell 0.0 0": "is 1 0 none"})
+        changes = [*side(*with_record(6, "7 1 E8 lost"), told=told).changes()]
+        self.assertEqual([it.said for it in changes][-1], "cell 0.0 0 is 1 1 none")
+        self.assertEqual({it.restored for it in changes}, {("cell 0.0 0", "1 0 none")})
+
+
+class Trials(unittest.TestCase):
+    """What a trial says, and what follows it."""
+
+    def take(self, made: Side, *outputs: str) -> str:
+        """What is changed where the trials write these texts in turn."""
+        given = iter(outputs)
+        self.scripts: list[str] = []
+
+        def run(_words: list[str], script: bytes) -> Ended:
+            self.scripts.append(script.decode("ascii"))
+            text = next(given, "")
+            return Ended(0 if text else 1, text.encode("ascii"), "")
+
+        with tempfile.TemporaryDirectory() as folder, mock.patch.object(program, "run", run):
+            made.replay.folder = Path(folder)
+            return made.take()
+
+    def test_the_first_change_that_does_what_the_port_did_is_taken(self) -> None:
+        made = side(*with_record(3, "4 1 E4 tail root; wrote; open 5"), told=Told(shown=SHOWN))
+        told, state = made.replay, actor("E5", t=5)
+        assert isinstance(told, Told)
+        right = f"{actor('E4')}\nok 1\nstep 1; go 1; tail 0.0; wrote; open 5; -\n{state}\n"
+        self.assertEqual(self.take(made, right), "tail 0.0 is open 5")
+        self.assertEqual(self.scripts, ["actor 1\ngo 1\nstep 1\nactor 1\n"])
+        self.assertEqual(json.loads(told.opened[0])["start"]["segments"][0][0]["tail"], 5)
+
+    def test_a_change_that_the_program_refuses_is_not_taken(self) -> None:
+        text = with_record(3, "4 1 E4 tail root; wrote; open 5")
+        wrong = f"{actor('E4')}\nok 1\nstep 1; go 1; tail 0.0; wrote; open 0; -\n{actor('E5')}\n"
+        refused = f"{actor('E4')}\nrefused 6 CounterEnd\n\n\n"
+        self.assertEqual(self.take(side(*text, told=Told(shown=SHOWN)), "", refused, wrong), "")
+        self.assertEqual(len(self.scripts), 3)
+
+    def test_a_call_is_over_where_the_port_says_so(self) -> None:
+        made = side(*with_record(2, "3 1 enqueued"))
+        self.assertEqual((made.take(), made.comparison.at), ("the actor is in no call", 3))
+        over = side(*LOG, "8 1 empty")
+        self.assertEqual((over.take(), over.found.state), ("nothing: both calls are over", IDLE))
+
+    def test_a_word_is_that_of_the_port_after_the_step(self) -> None:
+        made = side(*with_record(3, "4 1 E4 tail root; wrote; open 0; t 9"))
+        told = made.replay
+        assert isinstance(told, Told)
+        self.assertEqual((made.take(), made.comparison.at, told.count()), ("t 9", 4, 4))
+        self.assertEqual([it["t"] for it in json.loads(told.opened[0])["start"]["actors"]], [9, 0])
+        self.assertEqual(side(*with_record(3, "4 1 E4 tail root; wrote; open 0; t many")).take(), "")
+
+    def test_what_the_step_only_had_to_find_is_put_back(self) -> None:
+        told = Told([*ENQUEUE[:6], ("go 1", "cell 0.0 0; read; lost; -", actor("E9"))])
+        made = side(*with_record(6, "7 1 E8 won; enqueued"), told=told)
+        changed = copy.deepcopy(made.world)
+        put(changed["start"], "cell 0.0 0", "1 1 none")
+        made.go_on(Change("cell 0.0 0 is 1 1 none", changed, ("cell 0.0 0", "0 4 none")), [])
+        cells = [json.loads(it)["start"]["segments"][0][0]["cells"][0] for it in told.opened]
+        self.assertEqual((cells, made.comparison.at), ([[True, 1, None], [False, 4, None]], 7))
