@@ -1,7 +1,8 @@
 """Which steps of a run depend on which, worked out from the steps' records by the words of
 docs/MODEL.md alone.
 
-A record is the reply to `step K`. An actor counts as a place that each of its steps writes: so two
+A record is the reply to `step K`, which is read here and not by `records.py`: the checks rest on this
+reading being independent of what they check. An actor counts as a place that each of its steps writes: so two
 steps depend on each other exactly where they share a place that one of the two wrote. Numbers of
 steps count from 1.
 """

@@ -2,8 +2,8 @@
 
 `lines_of` gives the lines of each control point as they stand on the page, and `read` what they
 say, by a grammar that has just the forms of that page. A line of another form is a fault, and so is
-a control point of the table without a line. `tools/check.py pseudo_code` executes what `read` gives.
-Only Python's standard library is used.
+a control point of the table without a line. `tools/check.py pseudo_code` executes what `read` gives, by
+words of its own: it shares nothing with `records.py`. Only Python's standard library is used.
 """
 
 import re

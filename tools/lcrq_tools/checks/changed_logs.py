@@ -9,6 +9,7 @@ from collections.abc import Iterator
 
 from lcrq_tools.checks.port_runs import DIFFERS, RINGS, Bench, agrees, differs, steps_with
 from lcrq_tools.port.port_log import Record
+from lcrq_tools.records import Step
 
 CHANGED, SHORTER = 30, 10  # logs with one word changed, and logs without one record, over each ring
 LONG_CALLS = 1600  # of each of four threads: some 90,000 steps
@@ -32,7 +33,7 @@ def other_word(word: str, known: set[str], chance: random.Random) -> str:
 def changed(record: Record, known: set[str], chance: random.Random) -> tuple[str, str]:
     """The text of a record with one word changed, and what is said of it; nothing if it has no word to
     change."""
-    head, *parts = record.text.split("; ")
+    head, *parts = record.text.split("; ")  # the port's own words, which are changed as they stand
     words = head.split(" ")
     if record.kind == "reply":
         return f"{record.stamp} {record.name} failed", "replied failed"
@@ -100,11 +101,10 @@ def without_labels(bench: Bench, log: str) -> list[str]:
     lines = [it.line() for it in bench.records_of(log) if it.kind != "reply"]
     asked = [f"step {number}" for number in range(1, len(lines) + 1)]
     made = []
-    for number, entry in enumerate(bench.replies(["run", "-"], lines + asked)[len(lines) :], 1):
-        _, event, *parts = entry.split("; ")
-        word, actor, *rest = event.split(" ")
-        did = " ".join([word, *rest]) if word in ("enq", "deq") else "; ".join(parts)
-        made += [] if word == "starve" else [f"{number} {actor} {did}"]
+    for number, reply in enumerate(bench.replies(["run", "-"], lines + asked)[len(lines) :], 1):
+        step = Step.read(reply)
+        did = step.event.called() if step.event.is_call() else step.did()
+        made += [] if step.event.choice else [f"{number} {step.event.actor} {did}"]
     return made
 
 

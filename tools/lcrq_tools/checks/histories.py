@@ -16,6 +16,7 @@ from pathlib import Path
 from lcrq_tools import history, program
 from lcrq_tools.faults import Fault
 from lcrq_tools.page import run_rows, run_states
+from lcrq_tools.records import Event, is_made
 
 Call = tuple[int, str]  # a viewer, and the line that it asked
 
@@ -67,7 +68,7 @@ def lines_of(chance: random.Random, words: list[str], count: int) -> Iterator[st
 
 def owner_of(line: str, viewers: int) -> int:
     """The viewer who alone moves the actor of a step's line, where each actor has one."""
-    return (int(line.split(" ")[1]) - 1) % viewers + 1
+    return (Event.read(line).actor - 1) % viewers + 1
 
 
 def asked_of(chance: random.Random, folder: Path, count: int, given: argparse.Namespace) -> RandomHistory:
@@ -142,10 +143,10 @@ def wanted_of(arguments: argparse.Namespace, asked: RandomHistory, line: int) ->
     viewers = [viewer_of(states[made[row][0]], asked.calls) for row in last.rows]
     if not asked.is_apart:
         return viewers
-    lines = map(run_states.event_of, last.records)
+    lines = [str(step.event) for step in last.steps]
     return [owner_of(line, asked.viewers) if viewer else 0 for line, viewer in zip(lines, viewers)]
 
 
 def viewer_of(it: run_states.State, calls: list[Call]) -> int:
     """The viewer of a step that is first there after this line; 0 if the line doesn't make it."""
-    return calls[it.line - 1][0] if it.reply.startswith("ok ") else 0
+    return calls[it.line - 1][0] if is_made(it.reply) else 0

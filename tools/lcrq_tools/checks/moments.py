@@ -21,6 +21,7 @@ from xml.etree import ElementTree
 from lcrq_tools import model, program
 from lcrq_tools.draw import figure, picture
 from lcrq_tools.faults import Fault
+from lcrq_tools.records import Place, Step, is_made
 
 SVG = "{http://www.w3.org/2000/svg}"
 
@@ -105,6 +106,11 @@ class Loaded:
 # ---- The checks of a moment -----------------------------------------------------------------------
 
 
+def segment_of(place: str) -> str:
+    """The segment of a place, or nothing."""
+    return Place.read(place).segment
+
+
 def labels_wanted(place: str, content: str) -> list[str]:
     """The labels of a place that has this content."""
     kind, *rest = place.split(" ")
@@ -132,20 +138,19 @@ def places_fault(drawn: Drawn, loaded: Loaded, live: int) -> str:
         if texts != labels_wanted(place, content[place].removeprefix("is ")):
             return f"{place} has the labels {texts}, and it {content[place]}"
     for place, writer in writers.items():
-        segment = figure.segment_of(place)
-        inside = [it for it in drawn.places if figure.segment_of(it) == segment and it != place]
+        segment = segment_of(place)
+        inside = [other for other in drawn.places if segment_of(other) == segment and other != place]
         is_last = writer == f"writer {live}" and f"whole {segment}" not in drawn.written
         if place.startswith("whole "):
-            is_last = all(writers[it] == f"writer {live}" for it in inside)
+            is_last = all(writers[other] == f"writer {live}" for other in inside)
         if is_last != (place in drawn.written):
             return f"{place} is marked or is not, and {writer} made its last write"
     return ""
 
 
-def segments_fault(drawn: Drawn, loaded: Loaded, records: list[str], arguments: argparse.Namespace) -> str:
+def segments_fault(drawn: Drawn, loaded: Loaded, steps: list[Step], arguments: argparse.Namespace) -> str:
     """Which segment is missing, or stands where it should not, or nothing."""
-    places = [record.split("; ")[2] for record in records]
-    made = {place.removeprefix("whole ") for place in places if place.startswith("whole ")}
+    made = {step.place.segment for step in steps if step.place.kind == "whole"}
     if arguments.trace:
         start = json.loads(Path(arguments.trace).read_text(encoding="utf-8"))["start"]
         made |= {f"{maker}.{at}" for maker, them in enumerate(start.get("segments", [])) for at in range(len(them))}
@@ -198,7 +203,7 @@ def counters_fault(drawn: Drawn, ring: int) -> str:
 def chip_fault(actor: int, chip: Chip, about: str, tried: list[str], page: str) -> str:
     """What of a chip isn't as the program replies, or nothing."""
     place, texts = chip
-    head, _, words = about.removeprefix("actor ").partition(" crq ")
+    head, _, words = about.removeprefix("actor ").partition(" crq ")  # as it stands, not by records.py
     point, call = head.split(" ", 1)
     if texts[:3] != [str(actor), f"actor {actor}", call] or texts[3] != point:
         return f"the chip of actor {actor} has {texts[:4]}, and it is {head}"
@@ -210,7 +215,7 @@ def chip_fault(actor: int, chip: Chip, about: str, tried: list[str], page: str) 
         if f" {word} " not in f" crq {words} ":
             return f"the chip of actor {actor} has {word}, and its words are crq {words}"
     made, record = tried
-    wanted = record.split("; ")[2] if made.startswith("ok ") else "-"
+    wanted = str(Step.read(record).place) if is_made(made) else "-"
     said = f"touches {wanted}" if wanted != "-" else f"a choice: starve {actor} yes, or starve {actor} no"
     is_said = texts[-1] == (said if made.startswith(("ok ", "refused 4 ")) else made)
     return "" if place == wanted and is_said else f"the chip of actor {actor} says {texts[-1]}, and it {made}, {record}"
@@ -244,9 +249,9 @@ def pins_fault(drawn: Drawn) -> str:
     if wanted != {actor: place for actor, (place, _, _) in drawn.pins.items()}:
         return f"the pins are {drawn.pins}, and the actors would touch {wanted}"
     for actor, (place, x, _) in drawn.pins.items():
-        segment = "queue" if place in ("qhead", "qtail") else figure.segment_of(place)
+        segment = "queue" if place in ("qhead", "qtail") else segment_of(place)
         others = [it for it in drawn.places if it.split(" ")[0] not in ("whole", "index", "qhead", "qtail")]
-        beside = [place] if segment == "queue" else [it for it in others if figure.segment_of(it) == segment]
+        beside = [place] if segment == "queue" else [other for other in others if segment_of(other) == segment]
         rights = [drawn.places[it][0][0] for it in beside if drawn.places[it][0][0] > x]
         if spot_of(drawn, place)[0] != min(rights, default=None):
             return f"the pin of actor {actor} is not at the left of {place}"
@@ -256,13 +261,13 @@ def pins_fault(drawn: Drawn) -> str:
 def faults_of(svg: str, arguments: argparse.Namespace) -> str:
     """The first thing that is wrong with a moment, but for its labels' boxes, or nothing."""
     drawn, session = read(svg), figure.Session(arguments)
-    records = picture.records_of(session) if session.live + session.undone else []
+    records = picture.records_of(session) if session.live else []
     trace = trace_of(session)
     with tempfile.TemporaryDirectory() as folder:
         loaded = Loaded(arguments.program, Path(folder), trace)
         return (
             places_fault(drawn, loaded, session.live)
-            or segments_fault(drawn, loaded, records[: session.live], arguments)
+            or segments_fault(drawn, loaded, [Step.read(record) for record in records[: session.live]], arguments)
             or missing_fault(drawn, loaded, trace["ring"])
             or counters_fault(drawn, trace["ring"])
             or chips_fault(drawn, loaded, session.live)

@@ -35,6 +35,7 @@ from lcrq_tools.draw import figure, moment, picture
 from lcrq_tools.faults import Fault, Parser, status_of
 from lcrq_tools.options import add_program
 from lcrq_tools.program import TOP
+from lcrq_tools.records import Step
 
 EXAMPLES = Path("examples")
 GUIDE = f"{EXAMPLES}/guide.md"
@@ -225,18 +226,18 @@ def words_of(seed: int, folder: Path, is_short: bool, given: argparse.Namespace)
     return chance, [str(script), "--refused", *world, "--program", given.program]
 
 
-def options_of(chance: random.Random, records: list[str], live: int) -> list[str]:
+def options_of(chance: random.Random, steps: list[Step], live: int) -> list[str]:
     """Options at random: which steps are drawn, and what is asked about one of them."""
-    count, words = len(records), []
+    count, words = len(steps), []
     if chance.random() < 0.4:
         first, last = sorted(chance.choices(range(1, count + 1), k=2))
         words += ["--from", str(first), "--to", str(last)]
-    places = sorted({record.split("; ")[2] for record in records} - {"-"})
+    places = sorted({str(step.place) for step in steps if step.place})
     if places and chance.random() < 0.3:
         chosen = ",".join(chance.sample(places, min(2, len(places))))
         words += ["--places", re.sub(r"\bcell\b", chance.choice(["cell", "value", "index"]), chosen)]
     if chance.random() < 0.3:
-        words += ["--actor", chance.choice(records).split("; ")[1].split(" ")[1]]
+        words += ["--actor", str(chance.choice(steps).event.actor)]
     words += ["--free"] if chance.random() < 0.3 else []
     asked = chance.choice(["--undo", "--roll"])
     return [*words, asked, str(chance.randint(1, live))] if live and chance.random() < 0.7 else words
@@ -259,7 +260,7 @@ def drawn_fault(chance: random.Random, words: list[str], viewers: list[int]) -> 
     if not session.live + session.undone:
         return ""
     records = picture.records_of(session)
-    options = options_of(chance, records, session.live)
+    options = options_of(chance, [Step.read(record) for record in records], session.live)
     arguments = picture.parser().parse_args([*words, *options])
     run = runs.run_of(arguments, session, records)
     run.viewers = viewers

@@ -15,7 +15,8 @@ seeds are fixed.
 A line that can't be read is a fault, and so are the first difference and a line that no schedule
 reaches with each of its outcomes: a condition holds and fails, a CAS wins and loses. The status is
 1 then. A word that means the same where it stands is no difference: at Q5 idx is h, and at E8 and
-Q7 val is none. Only Python's standard library is used.
+Q7 val is none. Replies are compared as they stand, not by `records.py`. Only Python's standard library
+is used.
 """
 
 import argparse

@@ -26,9 +26,10 @@ from typing import Any
 
 from lcrq_tools import program
 from lcrq_tools.checks import histories, moments, pictures
-from lcrq_tools.draw import figure
+from lcrq_tools.draw.lanes import lanes_of
 from lcrq_tools.faults import Fault
-from lcrq_tools.page import page, page_parts, run_rows, run_states
+from lcrq_tools.page import page, page_parts, run_states
+from lcrq_tools.records import Place, Step, is_made
 
 RUNS, STEPS = 20, 60  # how many runs at random, and the lines of each
 HISTORIES = 10  # how many histories of viewers at random
@@ -97,7 +98,7 @@ def replies_about(state: State, loaded: moments.Loaded, names: list[str]) -> dic
     """What a loaded session replies about a moment, by the line. Steps come last, undone ones are made for
     that; and then the step of each actor, which going to a bookmark takes back."""
     there = [place for place in names if state["places"].get(place) is not None]
-    halves = [half for place in there for half in run_rows.lanes_of(place, [])]
+    halves = [half for place in there for half in lanes_of(Place.read(place), ())]
     lines = ["len", *(f"show {place}" for place in names), *(f"writer {place}" for place in halves)]
     lines += [f"actor {actor}" for actor in state["actors"]]
     trials = [(f"go {actor}", f"step {state['live'] + 1}", "goto here") for actor in state["actors"]]
@@ -129,10 +130,13 @@ def places_fault(state: State, replies: dict[str, str]) -> str:
     """Where a place has another content than the program replies, or another last writer, or nothing."""
     for line, reply in replies.items():
         word, _, place = line.partition(" ")
+        if word not in ("show", "writer"):
+            continue
         content = state["places"].get(place)
         if word == "show" and (reply != f"is {content}" if content else not reply.startswith("refused 19 ")):
             return f"{place} is {content}, and the program replies {reply}"
-        is_marked = place in state["written"] or f"whole {figure.segment_of(place)}" in state["written"]
+        whole = f"whole {Place.read(place).segment}"
+        is_marked = place in state["written"] or whole in state["written"]
         if word == "writer" and is_marked != (reply == f"writer {state['live']}"):
             return f"{place} is marked or is not, and {reply} made its last write"
     return ""
@@ -143,9 +147,9 @@ def segments_fault(state: State, replies: dict[str, str]) -> str:
     shows = {line: reply for line, reply in replies.items() if line.startswith("show next ")}
     nexts = {line.split(" ")[2]: reply.removeprefix("is ") for line, reply in shows.items()}
     nexts = {name: after for name, after in nexts.items() if not after.startswith("refused ")}
-    steps = [replies[f"step {at}"].split("; ")[2] for at in range(1, state["live"] + 1)]
-    made = {place.removeprefix("whole ") for place in steps if place.startswith("whole ")}
-    is_whole = all(isinstance(it, str) for it in state["linked"])
+    places = [Step.read(replies[f"step {number}"]).place for number in range(1, state["live"] + 1)]
+    made = {place.segment for place in places if place.kind == "whole"}
+    is_whole = all(isinstance(name, str) for name in state["linked"])
     if sorted(segments_in(state)) != sorted(nexts) or is_whole and not made <= {*nexts}:
         return f"the segments {segments_in(state)} are shown, and there are {[*nexts]}, {made} of them made"
     for name, after in zip(state["linked"], state["linked"][1:]):
@@ -171,7 +175,8 @@ def slots_fault(state: State, slots: list[str]) -> str:
 def actors_fault(state: State, replies: dict[str, str]) -> str:
     """What of the actors isn't as the program replies, or nothing."""
     for actor, chip in state["actors"].items():
-        head, _, words = replies[f"actor {actor}"].removeprefix("actor ").partition(" crq ")
+        about = replies[f"actor {actor}"].removeprefix("actor ")  # as it stands, not by records.py
+        head, _, words = about.partition(" crq ")
         if (chip is None) != head.startswith("Idle ") or chip and head != f"{chip['point']} {chip['call']}":
             return f"actor {actor} is {chip}, and the program replies {head}"
         if chip is None:
@@ -179,8 +184,8 @@ def actors_fault(state: State, replies: dict[str, str]) -> str:
         for word in chip["words"].removeprefix("its words: ").split(", ") if chip["words"] else []:
             if f" {word} " not in f" crq {words} ":
                 return f"actor {actor} has {word}, and its words are crq {words}"
-        tried = replies[f"go {actor}"]
-        if chip["place"] != (tried.split("; ")[3] if tried.startswith("ok ") else ""):
+        tried, _, record = replies[f"go {actor}"].partition("; ")
+        if chip["place"] != (str(Step.read(record).place) if is_made(tried) else ""):
             return f"actor {actor} would touch {chip['place']}, and the program replies {tried}"
     return ""
 
@@ -190,12 +195,12 @@ def rows_fault(data: Data, state: State, labels: dict[int, str], replies: dict[s
     if replies["len"] != f"at {state['live']} {len(state['rows']) - state['live']}":
         return f"{state['live']} of {len(state['rows'])} steps are live, and the program replies {replies['len']}"
     for at, row in enumerate(state["rows"], 1):
-        _, event, place, access, answer, reply = replies[f"step {at}"].split("; ")
-        words = [f"actor {event.split(' ')[1]}"]
-        words += [f" {access} {place}: {answer}"] if place != "-" else event.split(" ")[2:]
-        words += [f"the call replies {reply}"] if reply != "-" else []
+        step = Step.read(replies[f"step {at}"])
+        words = [f"actor {step.event.actor}"]
+        words += [f" {step.access} {step.place}: {step.answer}"] if step.place else [step.event.called()]
+        words += [f"the call replies {step.reply}"] if step.reply else []
         if at > data["above"] and not all(word in labels[row] for word in words):
-            return f"row {at} is {labels[row]}, and the program replies {replies[f'step {at}']}"
+            return f"row {at} is {labels[row]}, and the program replies {step}"
     return ""
 
 

@@ -20,6 +20,7 @@ from xml.etree.ElementTree import Element
 from lcrq_tools import dependence
 from lcrq_tools.checks import moments
 from lcrq_tools.draw import figure, picture
+from lcrq_tools.records import Step
 
 SVG = "{http://www.w3.org/2000/svg}"
 HIGH, LOW = 0.8, 0.22  # how far a letter reaches above and below its line, as a part of its size
@@ -411,7 +412,7 @@ def shades_fault(drawn: Drawn, run: Run) -> str:
 
 def segments_of(run: Run) -> set[str]:
     """The names of the segments that the steps or the start name, and of the root."""
-    made = {figure.segment_of(record.split("; ")[2]) for record in run.records}
+    made = {Step.read(record).place.segment for record in run.records}
     given = enumerate(run.start.get("segments", []))
     return {"0.0", *made, *(f"{maker}.{at}" for maker, them in given for at in range(len(them)))} - {""}
 

@@ -8,6 +8,7 @@ import re
 from typing import Any
 
 from lcrq_tools.page import run_states
+from lcrq_tools.records import Place, Step, is_made
 
 Shown = dict[str, Any]  # what the page shows, as a function of browser.js returns it
 Node = dict[str, Any]  # of the accessibility tree: its role, its name and more
@@ -29,7 +30,7 @@ class Replies:
         actors = [f"actor {at}" for at in range(1, asked.session.actors + 1)]
         self.actors = {line.split(" ")[1]: reply for line, reply in zip(actors, self.ask(actors))}
         forward = [f"forward {self.undone}"] if self.undone else []
-        self.records = self.ask([*forward, *(f"step {at}" for at in range(1, count + 1))])[len(forward):]
+        self.records = self.ask([*forward, *(f"step {number}" for number in range(1, count + 1))])[len(forward):]
         names = self.names(asked)
         places = ["qhead", "qtail", "ahead", "atail", *(f"acell {at}" for at in range(64))]
         places += [f"{kind} {name}" for name in names for kind in ("head", "tail", "next")]
@@ -58,13 +59,13 @@ class Replies:
 
     def made(self, place: str) -> bool:
         """Whether the last live step made the segment of a place, which is marked as a whole then."""
-        words = place.split(" ")
-        return bool(self.live) and len(words) > 1 and f"; whole {words[1]}; " in self.records[self.live - 1]
+        whole = Place("whole", Place.read(place).segment)
+        return bool(self.live) and Step.read(self.records[self.live - 1]).place == whole
 
     def trial(self, actor: str) -> str:
         """The place that an actor's next step would touch; nothing if there is none."""
         made, record = self.ask([f"go {actor}", f"step {self.live + 1}"])
-        return record.split("; ")[2] if made.startswith("ok ") else ""
+        return str(Step.read(record).place) if is_made(made) else ""
 
 
 # ---- The checks of a moment -----------------------------------------------------------------------
@@ -136,7 +137,7 @@ def actors_fault(shown: Shown, it: Replies, code: dict[str, str]) -> str:
     pins = {actor: place for place, about in shown["places"].items() for actor in about["pins"]}
     at_lines = {actor: point for point, actors in shown["code"].items() for actor in actors}
     for actor, reply in it.actors.items():
-        head, _, words = reply.removeprefix("actor ").partition(" crq ")
+        head, _, words = reply.removeprefix("actor ").partition(" crq ")  # as it stands, not by records.py
         point, call = head.split(" ", 1)
         chip = shown["chips"].get(actor)
         if point == "Idle":
@@ -170,14 +171,12 @@ def rows_fault(shown: Shown, it: Replies) -> str:
         return f"the rows are {sides} at the border, and {it.live} steps are live and {it.undone} undone"
     if sum(row["stops"] for row in rows) != (1 if rows else 0):
         return "the tab key does not come to one row"
-    for row, record in zip(rows, it.records):
-        _, event, place, access, answer, _ = record.split("; ")
-        word, actor, *rest = event.split(" ")
-        call = " ".join(rest if word == "starve" else [word, *rest])
-        words = [f"actor {actor}", f" {access} {place}: {answer}" if place != "-" else call]
+    for row, step in zip(rows, map(Step.read, it.records)):
+        did = f" {step.access} {step.place}: {step.answer}" if step.place else step.event.called()
+        words = [f"actor {step.event.actor}", did]
         said = re.fullmatch(r"\w+(?: \d+)?: (?:(viewer \d+), )?actor .*", row["about"])
         if not said or not all(word in row["about"] for word in words) or (said[1] or "") != row["viewer"]:
-            return f"row {row['number']} is {row['about']}, and the program replies {record}"
+            return f"row {row['number']} is {row['about']}, and the program replies {step}"
     last = [row["number"] for row in rows if row["last"]]
     return "" if last == ([str(it.live)] if it.live else []) else f"the rows {last} are marked as the last one"
 

@@ -13,6 +13,7 @@ from typing import NamedTuple
 from lcrq_tools.draw.figure import Session
 from lcrq_tools.faults import Fault
 from lcrq_tools.program import Broken, Driven, lines_of
+from lcrq_tools.records import Counts, Event, Made, Said, Step, read_reply
 
 NOBODY = 0  # in place of a viewer, for a step of the start
 
@@ -40,17 +41,17 @@ class Steps:
         """Does what a line of this viewer did, by its reply. `rolled` are the actors of the steps that a
         `roll` took."""
         word, _, rest = line.partition(" ")
-        if reply.startswith("ok "):
-            self.live.append(AskedStep(viewer, int(rest.split(" ")[0])))
+        said = read_reply(reply)
+        if isinstance(said, Made):
+            self.live.append(AskedStep(viewer, Event.read(line).actor))
             self.undone = []
-        elif reply.startswith("marked "):
+        elif isinstance(said, Said) and said.word == "marked":
             self.marks[rest] = [*self.live]
-        elif reply == "dropped":
+        elif isinstance(said, Said) and said.word == "dropped":
             self.marks.pop(rest, None)
-        elif reply.startswith("at "):
-            live, undone = counts_in(reply)
-            self.move(word, rest, live, rolled)
-            if (len(self.live), len(self.undone)) != (live, undone):
+        elif isinstance(said, Counts):
+            self.move(word, rest, said.live, rolled)
+            if (len(self.live), len(self.undone)) != (said.live, said.undone):
                 raise Fault(f"the steps can't be followed: `{line}` is answered {reply}")
 
     def move(self, word: str, rest: str, live: int, rolled: Sequence[int]) -> None:
@@ -87,35 +88,29 @@ def last_of(steps: Sequence[AskedStep], actors: Sequence[int]) -> list[int]:
 # ---- What the program replies ---------------------------------------------------------------------
 
 
-def counts_in(reply: str) -> tuple[int, int]:
-    """How many steps are live and how many undone, by the reply `at LIVE UNDONE`."""
-    _, live, undone = reply.split(" ")
-    return int(live), int(undone)
-
-
 def actors_of(driven: Driven, live: int, undone: int) -> list[int]:
     """The actors of the first undone steps, so many of them: each step is made again for that."""
     driven.ask(f"forward {undone}")
-    records = [driven.ask(f"step {live + at}")[0] for at in range(1, undone + 1)]
+    steps = [Step.read(driven.ask(f"step {live + number}")[0]) for number in range(1, undone + 1)]
     driven.ask(f"back {undone}")
-    return [int(record.split("; ")[1].split(" ")[1]) for record in records]
+    return [step.event.actor for step in steps]
 
 
 def start_of(driven: Driven) -> Steps:
     """The steps before the first line, which nobody asked."""
-    live, undone = counts_in(driven.ask("len")[0])
-    driven.ask(f"back {live}")
-    steps = [AskedStep(NOBODY, actor) for actor in actors_of(driven, 0, live + undone)]
-    driven.ask(f"forward {live}")
-    return Steps(steps[:live], steps[live:])
+    counts = Counts.read(driven.ask("len")[0])
+    driven.ask(f"back {counts.live}")
+    steps = [AskedStep(NOBODY, actor) for actor in actors_of(driven, 0, counts.live + counts.undone)]
+    driven.ask(f"forward {counts.live}")
+    return Steps(steps[: counts.live], steps[counts.live:])
 
 
 def rolled_by(driven: Driven, line: str, reply: str, before: int) -> list[int]:
     """The actors of the steps that a line took, if it is a `roll`. So many were undone before it."""
-    if not line.startswith("roll ") or not reply.startswith("at "):
+    counts = read_reply(reply)
+    if not line.startswith("roll ") or not isinstance(counts, Counts):
         return []
-    live, undone = counts_in(reply)
-    return actors_of(driven, live, undone - before)
+    return actors_of(driven, counts.live, counts.undone - before)
 
 
 def viewers_after(session: Session, lines: Collection[int]) -> dict[int, list[int]]:

@@ -14,6 +14,7 @@ from typing import TYPE_CHECKING, NamedTuple
 
 from lcrq_tools.draw.figure import DARK, GREY, HEAD, MARGIN, PLAIN, SMALL, colour_of, width_of
 from lcrq_tools.draw.viewer_marks import width_of_marks
+from lcrq_tools.records import Cell, Place
 
 if TYPE_CHECKING:
     from lcrq_tools.draw.moment import Chip, Moment, Segment
@@ -82,19 +83,18 @@ class Strip:
 # ---- Strips ---------------------------------------------------------------------------------------
 
 
-def cell_box(name: str, at: int, content: str) -> Box:
-    """The box of a cell, by the reply `SAFE IDX VALUE`."""
-    safe, index, value = content.split(" ")
-    shown = "" if value == "none" else value
-    half = Shown(f"index {name} {at}", f"idx {index}", safe == "0")
-    return Box(f"cell {at}", Shown(f"value {name} {at}", shown), half)
+def cell_box(name: str, at: int, cell: Cell) -> Box:
+    """The box of a cell."""
+    value = "" if cell.value is None else str(cell.value)
+    half = Shown(f"index {name} {at}", f"idx {cell.index}", not cell.is_safe)
+    return Box(f"cell {at}", Shown(f"value {name} {at}", value), half)
 
 
 def segment_strip(segment: "Segment", moment: "Moment") -> Strip:
     """The strip of a segment."""
     name, ring = segment.name, len(segment.cells)
-    closed, tail = segment.tail.split(" ")
-    above, below = int(tail) % ring, int(segment.head) % ring
+    tail = segment.tail
+    above, below = tail.count % ring, segment.head % ring
     spots = {f"tail {name}": (above, "above"), f"head {name}": (below, "below"), f"next {name}": (ring, "cell")}
     for at in range(ring):
         spots |= {f"{kind} {name} {at}": (at, kind) for kind in ("cell", "value", "index")}
@@ -102,10 +102,10 @@ def segment_strip(segment: "Segment", moment: "Moment") -> Strip:
     pills = [Counter(column, place, f"{word} {end}") for place, word, column, end in ends if end == name]
     return Strip(
         heading=f"segment {name}",
-        boxes=[cell_box(name, at, content) for at, content in enumerate(segment.cells)],
-        above=Counter(above, f"tail {name}", f"tail {tail} ▾"),
+        boxes=[cell_box(name, at, cell) for at, cell in enumerate(segment.cells)],
+        above=Counter(above, f"tail {name}", f"tail {tail.count} ▾"),
         below=Counter(below, f"head {name}", f"head {segment.head} ▴"),
-        closed=closed,
+        closed=tail.state(),
         next=Shown(f"next {name}", segment.next),
         pills=pills,
         place=f"whole {name}",
@@ -133,9 +133,10 @@ def array_strips(moment: "Moment") -> list[Strip]:
     """The strips of the array, if it was touched or somebody is about to touch it."""
     array = moment.array
     head, tail = int(array["ahead"]), int(array["atail"])
-    nears = [chip.place for chip in moment.chips if chip.place.split(" ")[0] in ("ahead", "atail", "acell")]
-    slots = [int(place.split(" ")[1]) for place in nears if place.startswith("acell ")]
-    slots += [at for at in range(64) if array[f"acell {at}"] != "empty"]
+    places = [Place.read(chip.place) for chip in moment.chips if chip.place]
+    nears = [place for place in places if place.kind in ("ahead", "atail", "acell")]
+    slots = [place.index for place in nears if place.index is not None]
+    slots += [slot for slot in range(64) if array[f"acell {slot}"] != "empty"]
     if not (head or tail or nears or slots):
         return []
     columns = [*range(min([head, tail, *slots]), max([head, tail, *slots]) + 1)]
@@ -165,7 +166,7 @@ def strips_of(moment: "Moment") -> tuple[list[Strip | int], list[Strip], list[St
     items: list[Strip | int] = [it if isinstance(it, int) else segment_strip(it, moment) for it in linked]
     for one, other in zip(items, items[1:]):
         if isinstance(one, Strip) and isinstance(other, Strip):
-            one.leads_on = one.next is not None and one.next.text == other.place.removeprefix("whole ")
+            one.leads_on = one.next is not None and other.place == f"whole {one.next.text}"
     apart = [segment_strip(it, moment) for it in moment.segments if not it.is_linked]
     return items, apart, array_strips(moment)
 

@@ -11,9 +11,10 @@ from lcrq_tools.draw.figure import (
     colour_of, element, group, mixed, number, svg, width_of, words_at,
 )
 from lcrq_tools.draw.lanes import (
-    BAND_TOP, DOT, FIRST_ROW, GAP, MARK, ROW, Call, Layout, Picture, Row, actor_lane, band_of, name_of,
+    BAND_TOP, DOT, FIRST_ROW, GAP, MARK, ROW, Call, Layout, Picture, Row, actor_lane, actor_of, band_of, name_of,
 )
 from lcrq_tools.draw.viewer_marks import mark_at, viewer_name
+from lcrq_tools.records import Place
 
 CALL, BAR, NUMBER = 6, 6, 7  # half of how wide a call and a bar are, and half of how high the frame of a number is
 IN_CALL = 0.22  # how much of an actor's colour the shade of its call has
@@ -63,13 +64,14 @@ def heading_lines(layout: Layout, down: int) -> Iterator[str]:
     for band, left, _ in layout.bands:
         yield words_at(left + GAP, down + BAND_TOP + 15, layout.heading_of(band), HEAD, DARK, bold=True)
     for lane, x in layout.lanes.items():
-        if lane.startswith("value "):
-            middle = (x + layout.lanes[f"index {lane.partition(' ')[2]}"]) / 2
-            yield words_at(middle, down + 40, f"cell {lane.split(' ')[2]}", PLAIN, DARK, "middle")
+        place = Place.read(lane)
+        if place.kind == "value":
+            middle = (x + layout.lanes[str(place.half("index"))]) / 2
+            yield words_at(middle, down + 40, f"cell {place.index}", PLAIN, DARK, "middle")
         if band_of(lane):
             yield words_at(x, down + 56, name_of(lane), SMALL, GREY, "middle")
         else:
-            yield words_at(x, down + 40, lane, HEAD, colour_of(int(lane.split(" ")[1]))[1], "middle", True)
+            yield words_at(x, down + 40, lane, HEAD, colour_of(actor_of(lane))[1], "middle", True)
 
 
 def lane_lines(layout: Layout) -> Iterator[str]:
@@ -81,7 +83,7 @@ def lane_lines(layout: Layout) -> Iterator[str]:
             if band_of(lane):
                 yield element("line", **line, stroke=LANE)
             else:
-                yield element("line", **line, stroke=colour_of(int(lane.split(" ")[1]))[0], stroke_width=2)
+                yield element("line", **line, stroke=colour_of(actor_of(lane))[0], stroke_width=2)
         yield from group("headings", heading_lines(layout, part.down))
 
 
@@ -115,7 +117,7 @@ def ends_of(layout: Layout, call: Call) -> tuple[tuple[int, bool], tuple[int, bo
 def call_lines(layout: Layout, undone: bool) -> Iterator[str]:
     """The calls as shades along their actors' lanes, beside live rows or beside undone ones."""
     rows = zip(layout.picture.rows, layout.rows)
-    border = next((y - ROW // 2 for row, y in rows if row.name == "undone"), layout.bottom)
+    border = next((y - ROW // 2 for row, y in rows if row.is_undone), layout.bottom)
     for call in layout.picture.calls:
         (top, begins), (bottom, ends) = ends_of(layout, call)
         x = layout.lanes[actor_lane(call.actor)]
@@ -150,19 +152,20 @@ def start_lines(layout: Layout) -> Iterator[str]:
 def name_lines(layout: Layout, row: Row, at: int) -> Iterator[str]:
     """The number of a row, in a frame where it could be undone alone, and filled where a bar ends."""
     y, is_end = layout.rows[at], at in (layout.picture.bar or ())[1:]
-    width = width_of(row.name, SMALL, True)
+    width = width_of(row.name(), SMALL, True)
     place = {"x": layout.numbers - width - 3, "y": y - NUMBER, "width": width + 6, "height": 2 * NUMBER, "rx": 4}
     if is_end:
         yield element("rect", class_="end", **place, fill=mixed(ASKED, GROUND, 0.35))
     if row.is_free:
         yield number_frame(**place)
-    yield words_at(layout.numbers, y + 4, row.name, SMALL, ASKED_WORDS if is_end else GREY, "end", is_end)
+    yield words_at(layout.numbers, y + 4, row.name(), SMALL, ASKED_WORDS if is_end else GREY, "end", is_end)
 
 
 def row_lines(layout: Layout, row: Row, at: int) -> Iterator[str]:
     """One row: its line first, then dots and words over it."""
-    y, actor = layout.rows[at], layout.lanes[actor_lane(row.actor)]
-    colour, dark = colour_of(row.actor)
+    lane = actor_lane(row.actor())
+    y, actor = layout.rows[at], layout.lanes[lane]
+    colour, dark = colour_of(row.actor())
     if row.dots:
         ends = [layout.lanes[dot.lane] for dot in row.dots]
         yield element("line", x1=actor, y1=y, x2=max(ends), y2=y, stroke=colour, stroke_opacity=0.6)
@@ -170,7 +173,7 @@ def row_lines(layout: Layout, row: Row, at: int) -> Iterator[str]:
     if row.viewer:
         yield from mark_at(row.viewer, layout.numbers + 8 + layout.marks / 2, y)
     yield words_at(actor - 9, y + 4, row.point, PLAIN, DARK, "end")
-    yield from over(actor, y, row.reply, PLAIN, dark, ground_of(actor_lane(row.actor), row), True)
+    yield from over(actor, y, row.step.reply, PLAIN, dark, ground_of(lane, row), True)
     yield dot_at("wrote", actor, y, colour)
     for dot in row.dots:
         x, is_write = layout.lanes[dot.lane], dot.kind == "wrote"
@@ -220,7 +223,7 @@ def asked_lines(layout: Layout) -> Iterator[str]:
 
 def meaning_of(picture: Picture) -> str:
     """How what was asked is shown."""
-    if picture.bar and picture.bar[0].startswith("actor "):
+    if picture.bar and actor_of(picture.bar[0]):
         return f"orange bar: both are steps of {picture.bar[0]}, and each dot on its lane counts as a write"
     if picture.bar:
         return "orange bar: the lane that both share, and one of them writes it"
@@ -269,8 +272,8 @@ def legend_of(picture: Picture) -> list[str]:
     """What the legend explains: the dots, and what else the picture has."""
     has = {
         "call": bool(picture.calls),
-        "index": any(lane.startswith("index ") for lane in picture.lanes),
-        "undone": any(row.name == "undone" for row in picture.rows),
+        "index": any(Place.read(lane).kind == "index" for lane in picture.lanes),
+        "undone": any(row.is_undone for row in picture.rows),
         "break": len(picture.rows) <= picture.last - picture.first,
         "lone": picture.shows_free,
     }
@@ -308,18 +311,13 @@ def legend_lines(layout: Layout) -> Iterator[str]:
 
 def sentence_of(row: Row) -> str:
     """A row in words."""
-    reply = f"; the call replies {row.reply}" if row.reply else ""
-    free = "; it could be undone alone now" if row.is_free else ""
-    begins = f"{row.name}: {viewer_name(row.viewer)}, " if row.viewer else f"{row.name}: "
-    if row.place == "-":
-        return f"{begins}actor {row.actor}, {row.point}{free}."
-    return f"{begins}actor {row.actor} at {row.point} {row.access} {row.place}: {row.answer}{reply}{free}."
+    return f"{row.name()}: {row.sentence()}{'; it could be undone alone now' if row.is_free else ''}."
 
 
 def about(picture: Picture) -> str:
     """The picture in words."""
     chosen = f" {picture.chosen} alone" if picture.chosen else ""
-    stands = [f"{lane} at {text}" for lane, text in picture.start.items() if text and lane.startswith("actor ")]
+    stands = [f"{lane} at {text}" for lane, text in picture.start.items() if text and actor_of(lane)]
     begin = [f"Before the first row: {'; '.join(stands)}."] if stands and picture.start_name else []
     apart = [f"Segment {name} was never linked." for name in sorted(picture.apart)]
     return " ".join([f"The steps{chosen}, from the first down.", *begin, *map(sentence_of, picture.rows), *apart])
@@ -338,8 +336,8 @@ def draw(picture: Picture) -> str:
         *group("start", start_lines(layout)),
     ]
     for at, row in enumerate(picture.rows):
-        undone = row.name == "undone"
-        lines += group("row undone" if undone else "row", row_lines(layout, row, at), PALE if undone else None)
+        kind, opacity = ("row undone", PALE) if row.is_undone else ("row", None)
+        lines += group(kind, row_lines(layout, row, at), opacity)
     lines += group("words", asked_words(layout))
     lines += group("legend", legend_lines(layout))
     return svg(picture.title, about(picture), layout.width, layout.height, lines)

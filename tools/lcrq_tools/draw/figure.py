@@ -7,13 +7,14 @@ Only Python's standard library is used.
 
 import argparse
 from collections.abc import Callable, Iterable, Sequence
+from html import escape
 from pathlib import Path
-from xml.sax.saxutils import escape
 
 from lcrq_tools import history
 from lcrq_tools.faults import Fault, say
 from lcrq_tools.options import MOST_ACTORS, start_words, write
 from lcrq_tools.program import bytes_of, refusals_of, run, world_of
+from lcrq_tools.records import Counts, content_of
 
 # The colours of Okabe and Ito: of an actor's dots and lines, and darker for its words. Their
 # vermilion is that of `--undo` and `--roll`, and of what is unsafe or closed.
@@ -58,8 +59,9 @@ class Session:
         given, about = replies[:-len(asked)], replies[-len(asked):]
         if len(about) < len(asked) or not about[0].startswith("at "):
             raise Fault(f"{self.words[0]} does not reply as lcrqdb does")
-        self.live, self.undone = (int(word) for word in about[0].split(" ")[1:])
-        self.ring = sum(reply.startswith("is ") for reply in about)
+        counts = Counts.read(about[0])
+        self.live, self.undone = counts.live, counts.undone
+        self.ring = sum(map(bool, map(content_of, about)))
         self.actors = sum(reply.startswith("actor ") for reply in about)
         self.refused, has_fault = refusals_of(self.script, given)
         if has_fault and not takes_refused:
@@ -113,10 +115,17 @@ def script_of(name: str, count: int | None) -> bytes:
     return b"".join(line + b"\n" for line in lines[:count])
 
 
-def segment_of(place: str) -> str:
-    """The segment of a place, or nothing."""
-    words = place.split(" ")
-    return words[1] if "." in words[-1] or len(words) == 3 else ""
+def in_order(nexts: dict[str, str], ends: Sequence[str]) -> tuple[list[str], list[str]]:
+    """The names of linked segments in the order of their links, and then the other ones, by what follows
+    each and by the queue's ends."""
+    named = set(nexts.values())
+    begins = [name for name in nexts if name not in named and (name in ("0.0", *ends) or nexts[name] != "none")]
+    linked: dict[str, None] = {}
+    for name in [*begins, *ends, *(name for name in nexts if name in named)]:
+        while name in nexts and name not in linked:
+            linked[name] = None
+            name = nexts[name]
+    return [*linked], [name for name in nexts if name not in linked]
 
 
 # ---- Elements of SVG ------------------------------------------------------------------------------
@@ -130,9 +139,15 @@ def width_of(text: str, size: float, bold: bool = False) -> float:
 
 def element(name: str, text: str | None = None, /, **values: object) -> str:
     """An element of SVG; `_` in a name is `-`, and a value of None is left out."""
-    given = ((key.rstrip("_").replace("_", "-"), it) for key, it in values.items() if it is not None)
-    words = "".join(f' {key}="{escape(number(it), {chr(34): "&quot;"})}"' for key, it in given)
-    return f"<{name}{words}/>" if text is None else f"<{name}{words}>{escape(text)}</{name}>"
+    given = ((key.rstrip("_").replace("_", "-"), value) for key, value in values.items() if value is not None)
+    words = "".join(f" {key}={quoted(number(value))}" for key, value in given)
+    return f"<{name}{words}/>" if text is None else f"<{name}{words}>{escape(text, quote=False)}</{name}>"
+
+
+def quoted(text: str) -> str:
+    """A text as the value of an attribute."""
+    value = escape(text, quote=False).replace('"', "&quot;")
+    return f'"{value}"'
 
 
 def number(value: object) -> str:

@@ -1,14 +1,16 @@
 """What a picture of a run is made of, and where it is: `drawing.py` draws it.
 
-A picture is its lanes and its rows. Rows stand in parts, each below headings of its own, so that a
-long picture can be read. Where steps of the run are left out, a break stands between two rows.
-Labels get the room that a wide font needs, so that no two overlap.
+A picture is its lanes and its rows. A lane is named after its actor or its place. Rows stand in parts,
+each below headings of its own, so that a long picture can be read. Where steps of the run are left out,
+a break stands between two rows. Labels get the room that a wide font needs, so that no two overlap.
 """
 
+from collections.abc import Collection, Iterable, Sequence
 from dataclasses import dataclass, field
 
-from lcrq_tools.draw.figure import HEAD, MARGIN, PLAIN, SMALL, segment_of, width_of
+from lcrq_tools.draw.figure import HEAD, MARGIN, PLAIN, SMALL, width_of
 from lcrq_tools.draw.viewer_marks import viewer_name, width_of_marks
+from lcrq_tools.records import Actor, Place, Step
 
 # Sizes, in pixels.
 ROW, DOT, GAP, BREAK = 22, 4.5, 14, 10
@@ -27,33 +29,56 @@ class Dot:
     text: str
 
 
-def dot_of(access: str, answer: str, lane: str, before: str, after: str) -> Dot:
-    """What a step did on one lane of its place, by its record and the contents before and after it."""
-    if answer == "lost":
+def dot_of(step: Step, lane: str, before: str, after: str) -> Dot:
+    """What a step did on one lane of its place, by the contents before and after it."""
+    if step.answer == "lost":
         return Dot(lane, "lost", before)
-    if access == "wrote" or access == "wrote index" and lane.startswith("index "):
-        counts = before and lane.split(" ")[0] in ("head", "tail", "ahead", "atail", "acell")
+    kind = Place.read(lane).kind
+    if step.access == "wrote" or step.access == "wrote index" and kind == "index":
+        counts = before and kind in ("head", "tail", "ahead", "atail", "acell")
         return Dot(lane, "wrote", f"{before} → {after}" if counts else after)
     return Dot(lane, "read", before)
 
 
 @dataclass
 class Row:
-    """A step: `name` is its number or `undone`, `point` its control point or its call."""
+    """A step: `point` is its control point, its choice or its call."""
 
-    name: str
-    number: int  # in the run, with the undone steps counted on
-    actor: int
+    step: Step
     point: str
-    begins: bool  # a call
-    place: str
-    access: str
-    answer: str
-    reply: str
     dots: list[Dot] = field(default_factory=list)
+    is_undone: bool = False
     goes: bool = False  # taken by the rollback that is asked for
     is_free: bool = False  # could be undone alone now
     viewer: int = 0  # who asked it, where the run is of viewers
+
+    def name(self) -> str:
+        """Its number or `undone`."""
+        return "undone" if self.is_undone else str(self.step.number)
+
+    def actor(self) -> int:
+        """The actor that made it."""
+        return self.step.event.actor
+
+    def fill(self, actor: Actor, contents: Iterable[tuple[str, str, str]]) -> None:
+        """Puts into it the actor before its step, and the content of its lanes before and after it."""
+        if not actor.is_idle():
+            self.point = f"{actor.point} {self.point}".strip()
+        self.dots = [dot_of(self.step, *content) for content in contents]
+
+    def sentence(self) -> str:
+        """The step in words, without its number."""
+        step = self.step
+        begins = f"{viewer_name(self.viewer)}, actor {self.actor()}" if self.viewer else f"actor {self.actor()}"
+        if not step.place:
+            return f"{begins}, {self.point}"
+        reply = f"; the call replies {step.reply}" if step.reply else ""
+        return f"{begins} at {self.point} {step.access} {step.place}: {step.answer}{reply}"
+
+
+def row_of(step: Step, is_undone: bool = False) -> Row:
+    """The row of a step, without its dots and its control point."""
+    return Row(step, step.event.called(), is_undone=is_undone)
 
 
 @dataclass
@@ -98,33 +123,60 @@ def actor_lane(actor: int) -> str:
     return f"actor {actor}"
 
 
-def order_of(lane: str, chain: list[str]) -> tuple[int | str, ...]:
+def actor_of(lane: str) -> int:
+    """The actor of a lane; 0 for a lane of memory."""
+    place = Place.read(lane)
+    return place.index or 0 if place.kind == "actor" else 0
+
+
+def lanes_of(place: Place, shown: Collection[str]) -> list[str]:
+    """The lanes of a place: those of its halves for a cell, and all that are shown of a segment."""
+    if place.kind == "whole":
+        return [lane for lane in shown if Place.read(lane).segment == place.segment]
+    return [str(part) for part in place.parts()]
+
+
+def lanes_at(place: Place) -> list[str]:
+    """The lanes that a place has to have: a cell both, and a segment that is made its tail and its
+    first cell at least, in which the value is."""
+    if place.kind == "whole":
+        return [f"tail {place.segment}", f"value {place.segment} 0", f"index {place.segment} 0"]
+    return lanes_of(place.half("cell") if place.kind in ("value", "index") else place, ())
+
+
+def order_of(lane: str, chain: Sequence[str]) -> tuple[int | str, ...]:
     """Where a lane is: actors, the queue's ends, the segments in this order, the array."""
-    kind, *rest = lane.split(" ")
+    place = Place.read(lane)
+    kind, index = place.kind, place.index or 0
     if kind == "actor":
-        return (0, int(rest[0]))
+        return (0, index)
     if kind in ("qhead", "qtail"):
         return (1, kind)
-    if kind in ("ahead", "atail", "acell"):
-        return (3, len(rest), int(rest[0]) if rest else 0, kind)
+    if not place.segment:
+        return (3, int(kind == "acell"), index, kind)
     column = {"head": 0, "tail": 1, "value": 2, "index": 2, "next": 3}[kind]
-    return (2, chain.index(rest[0]), column, int(rest[1]) if rest[1:] else 0, kind == "index")
+    return (2, chain.index(place.segment), column, index, kind == "index")
 
 
 def name_of(lane: str) -> str:
     """What is above a lane."""
-    kind = lane.split(" ")[0]
-    if kind == "acell":
-        return f"slot {lane.split(' ')[1]}"
-    return {"index": "safe idx", "ahead": "head", "atail": "tail"}.get(kind, kind)
+    place = Place.read(lane)
+    if place.kind == "acell":
+        return f"slot {place.index}"
+    return {"index": "safe idx", "ahead": "head", "atail": "tail"}.get(place.kind, place.kind)
 
 
 def band_of(lane: str) -> str:
     """The name of the band in which a lane is: that of a segment, `queue`, `array`, or none."""
-    kind = lane.split(" ")[0]
-    if kind in ("qhead", "qtail"):
+    place = Place.read(lane)
+    if place.kind in ("qhead", "qtail"):
         return "queue"
-    return "" if kind == "actor" else segment_of(lane) or "array"
+    return "" if place.kind == "actor" else place.segment or "array"
+
+
+def heading_of(band: str) -> str:
+    """What is above a band."""
+    return f"segment {band}" if "." in band else band
 
 
 # ---- Where everything is --------------------------------------------------------------------------
@@ -147,7 +199,7 @@ class Layout:
 
     def __init__(self, picture: Picture, words: float, legend: list[str]) -> None:
         self.picture = picture
-        names = [picture.start_name, *(row.name for row in picture.rows)]
+        names = [picture.start_name, *(row.name() for row in picture.rows)]
         self.numbers = MARGIN + max(width_of(name, SMALL, True) for name in names)
         self.marks = width_of_marks(picture.viewers())  # the room for viewers' marks, at the right of the numbers
         self.lanes: dict[str, int] = {}
@@ -184,23 +236,22 @@ class Layout:
 
     def heading_of(self, band: str) -> str:
         """What is above a band."""
-        apart = ", never linked" if band in self.picture.apart else ""
-        return f"segment {band}{apart}" if "." in band else band
+        return f"{heading_of(band)}{', never linked' if band in self.picture.apart else ''}"
 
     def room_of(self, lane: str) -> tuple[float, float]:
         """How much room a lane wants at its left and its right, for its words."""
         half = width_of(name_of(lane), SMALL) / 2 + 2
         starts = [self.picture.start[lane]] if self.picture.start_name else []
-        if not lane.startswith("actor "):
+        if not actor_of(lane):
             texts = [dot.text for row in self.picture.rows for dot in row.dots if dot.lane == lane]
             widest = max((width_of(text, SMALL, True) for text in [*texts, *starts]), default=0)
             return max(half, 12), max(half, widest + 10)
-        rows = [row for row in self.picture.rows if actor_lane(row.actor) == lane]
+        rows = [row for row in self.picture.rows if actor_lane(row.actor()) == lane]
         half = width_of(lane, HEAD, True) / 2 + 2
         points = [*(row.point for row in rows), *starts]
         return (
             max([half, *(width_of(point, PLAIN) + 16 for point in points)]),
-            max([half, *(width_of(row.reply, PLAIN, True) + 14 for row in rows)]),
+            max([half, *(width_of(row.step.reply, PLAIN, True) + 14 for row in rows)]),
         )
 
     def put_rows(self) -> None:
@@ -211,9 +262,9 @@ class Layout:
                 self.parts[-1].bottom = y + PART_END
                 self.parts.append(Part(y + PART_END - BAND_TOP + 4))
                 y = self.parts[-1].down + FIRST_ROW - ROW
-            if row.number > number + 1:
+            if row.step.number > number + 1:
                 y = self.put_break(y)
-            y, number = y + ROW, row.number
+            y, number = y + ROW, row.step.number
             self.rows.append(y)
         if number < self.picture.last:
             y = self.put_break(y)
@@ -239,10 +290,11 @@ class Layout:
     def side_of(self, number: int, side: int) -> tuple[int, bool]:
         """How far down the upper (-1) or the lower (1) end of what reaches as far as this step is,
         and whether the step has a row: else it ends at the break where the step is left out."""
-        at = next((at for at, row in enumerate(self.picture.rows) if row.number >= number), len(self.rows))
-        if at < len(self.rows) and self.picture.rows[at].number == number:
-            return self.rows[at] + side * (ROW // 2 - 2), True
-        above = [it for it in self.breaks if at == 0 or it > self.rows[at - 1]]
+        rows, downs = self.picture.rows, self.rows
+        first = next((index for index, row in enumerate(rows) if row.step.number >= number), len(rows))
+        if first < len(rows) and rows[first].step.number == number:
+            return downs[first] + side * (ROW // 2 - 2), True
+        above = [y for y in self.breaks if first == 0 or y > downs[first - 1]]
         return above[0], False
 
     def clipped(self, top: int, bottom: int) -> list[tuple[int, int]]:

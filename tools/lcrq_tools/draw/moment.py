@@ -33,28 +33,28 @@ from collections.abc import Iterable, Iterator, Sequence
 from dataclasses import dataclass, field
 
 from lcrq_tools import model
-from lcrq_tools.draw.figure import Session, kind_of, script_name, segment_of, write_drawn
+from lcrq_tools.draw.figure import Session, in_order, kind_of, script_name, write_drawn
 from lcrq_tools.draw.queue_drawing import draw
 from lcrq_tools.draw.viewer_marks import viewer_name
 from lcrq_tools.faults import Fault
 from lcrq_tools.options import number_above_0, run_parser
+from lcrq_tools.records import WORDS, Actor, Cell, Place, Refusal, Step, Tail, content_of, is_made
 
 SLOTS = 64
 AT_ONCE = 16  # of how many segments of a maker one run asks
-WORDS = ("crq", "new", "next", "t", "h", "closed", "val", "safe", "idx", "pass")
 
 Code = dict[str, dict[str, list[str]]]  # the lines of each control point, by the calls
 
 
 @dataclass
 class Segment:
-    """A segment, with the replies about its places."""
+    """A segment, with what is at its places."""
 
     name: str
-    head: str
-    tail: str  # with `open` or `closed` in front
+    head: int
+    tail: Tail
     next: str
-    cells: list[str]
+    cells: list[Cell]
     is_linked: bool = True
 
 
@@ -72,14 +72,29 @@ class Chip:
 
 
 @dataclass
-class Step:
+class Last:
     """The last live step."""
 
-    number: int
-    actor: int
+    step: Step
     point: str
-    record: str
-    places: list[str]  # that it wrote
+
+    def actor(self) -> int:
+        """The actor that made it."""
+        return self.step.event.actor
+
+    def places(self) -> list[str]:
+        """The places that it wrote."""
+        return [str(place) for place in self.step.wrote()]
+
+    def sentence(self) -> str:
+        """The step in words."""
+        step = self.step
+        begins = f"step {step.number}: actor {self.actor()}"
+        if not step.place:
+            return f"{begins}, {step.event}"
+        reply = f"; the call replied {step.reply}" if step.reply else ""
+        access = "wrote the index half of" if step.access == "wrote index" else step.access
+        return f"{begins} at {self.point} {access} {step.place}: {step.answer}{reply}"
 
 
 @dataclass
@@ -95,7 +110,7 @@ class Moment:
     array: dict[str, str]  # the replies about its counters and slots, by their places
     chips: list[Chip]
     idle: list[int]  # the actors that are in no call
-    last: Step | None
+    last: Last | None
     near: set[str] = field(default_factory=set)  # the segments that are never left out
     viewer: int = 0  # who asked the last line, where the run is of viewers
 
@@ -103,11 +118,10 @@ class Moment:
 # ---- Memory ---------------------------------------------------------------------------------------
 
 
-def content_of(session: Session, places: Sequence[str]) -> dict[str, str]:
+def contents_of(session: Session, places: Sequence[str]) -> dict[str, str]:
     """What is at each of these places, as far as it is there."""
-    replies = session.ask([f"show {place}" for place in places])
-    there = zip(places, replies)
-    return {place: reply.removeprefix("is ") for place, reply in there if reply.startswith("is ")}
+    contents = map(content_of, session.ask([f"show {place}" for place in places]))
+    return {place: content for place, content in zip(places, contents) if content}
 
 
 def names_of(session: Session, actors: Iterable[int]) -> list[str]:
@@ -117,38 +131,25 @@ def names_of(session: Session, actors: Iterable[int]) -> list[str]:
         first, has_more = 0, True
         while has_more:
             tried = [f"whole {maker}.{number}" for number in range(first, first + AT_ONCE)]
-            found = content_of(session, tried)
-            names += [place.removeprefix("whole ") for place in found]
+            found = contents_of(session, tried)
+            names += [Place.read(place).segment for place in found]
             first, has_more = first + AT_ONCE, bool(found)
     return names
-
-
-def in_order(names: Sequence[str], nexts: dict[str, str], ends: Sequence[str]) -> tuple[list[str], list[str]]:
-    """The names of linked segments in the order of their links, and then the other ones."""
-    named = set(nexts.values())
-    begins = [name for name in names if name == "0.0" or name in ends or nexts[name] != "none"]
-    firsts = [name for name in begins if name not in named]
-    linked: list[str] = []
-    for name in [*firsts, *ends, *(name for name in names if name in named)]:
-        while name in nexts and name not in linked:
-            linked.append(name)
-            name = nexts[name]
-    return linked, [name for name in names if name not in linked]
 
 
 def segments_of(session: Session, names: Sequence[str], ring: int, ends: Sequence[str]) -> list[Segment]:
     """All segments, the linked ones first."""
     places = [f"{kind} {name}" for name in names for kind in ("head", "tail", "next")]
     places += [f"cell {name} {cell}" for name in names for cell in range(ring)]
-    content = content_of(session, places)
-    linked, apart = in_order(names, {name: content[f"next {name}"] for name in names}, ends)
+    content = contents_of(session, places)
+    linked, apart = in_order({name: content[f"next {name}"] for name in names}, ends)
     return [
         Segment(
             name,
-            content[f"head {name}"],
-            content[f"tail {name}"],
+            int(content[f"head {name}"]),
+            Tail.read(content[f"tail {name}"]),
             content[f"next {name}"],
-            [content[f"cell {name} {cell}"] for cell in range(ring)],
+            [Cell.read(content[f"cell {name} {index}"]) for index in range(ring)],
             name in linked,
         )
         for name in [*linked, *apart]
@@ -181,78 +182,53 @@ def read_words(step: model.Step) -> list[str]:
     return [word for word in WORDS if word in reads - sets]
 
 
-def next_steps(session: Session, actors: Sequence[int]) -> dict[int, tuple[str, str]]:
-    """The reply to the next step of each actor, and the record of that step where it was made."""
+def next_of(made: str, record: str) -> Step | Refusal:
+    """A next step by the replies to its line and to `step K`, or why it can't be made."""
+    return Step.read(record) if is_made(made) else Refusal.read(made)
+
+
+def next_steps(session: Session, actors: Sequence[int]) -> dict[int, Step | Refusal]:
+    """The next step of each actor, or why there is none."""
     number = session.live + 1
     replies = session.ask([line for actor in actors for line in (f"go {actor}", f"step {number}", f"undo {number}")])
-    return {actor: (replies[3 * at], replies[3 * at + 1]) for at, actor in enumerate(actors)}
+    return dict(zip(actors, map(next_of, replies[::3], replies[1::3])))
 
 
-def chip_of(actor: int, reply: str, tried: tuple[str, str], page: Code, steps: dict[str, model.Step]) -> Chip:
-    """The chip of an actor by the replies about it."""
-    about, _, rest = reply.partition(" crq ")
-    _, point, call = about.split(" ", 2)
-    pairs = f"crq {rest}".split(" ")
-    values = dict(zip(pairs[::2], pairs[1::2]))
-    lines = page[call.split(" ")[0]][point]
-    words = [f"{word} {values[word]}" for word in read_words(steps[point])]
-    made, record = tried
-    place = record.split("; ")[2] if made.startswith("ok ") else ""
-    if made.startswith("refused 4 "):
-        note = f"a choice: starve {actor} yes, or starve {actor} no"
-    else:
-        note = "" if place else made
-    return Chip(actor, call, point, lines, words, place, note)
+def chip_of(number: int, actor: Actor, tried: Step | Refusal, page: Code, rows: dict[str, model.Step]) -> Chip:
+    """The chip of an actor by its number, its words, and its next step, or why there is none."""
+    lines = page[actor.call_word()][actor.point]
+    words = [f"{word} {actor.words[word]}" for word in read_words(rows[actor.point])]
+    if isinstance(tried, Step):
+        return Chip(number, actor.call, actor.point, lines, words, str(tried.place))
+    choice = f"a choice: starve {number} yes, or starve {number} no"
+    note = choice if tried.name == "NeedsChoice" else str(tried)
+    return Chip(number, actor.call, actor.point, lines, words, "", note)
 
 
-def actors_of(session: Session) -> dict[int, str]:
-    """The reply about each actor of the world."""
-    replies = session.ask([f"actor {actor}" for actor in range(1, session.actors + 1)])
-    return dict(enumerate(replies, 1))
+def actors_of(session: Session) -> dict[int, Actor]:
+    """Each actor of the world."""
+    replies = session.ask([f"actor {number}" for number in range(1, session.actors + 1)])
+    return dict(enumerate(map(Actor.read, replies), 1))
 
 
-def chips_of(session: Session, replies: dict[int, str]) -> list[Chip]:
+def chips_of(session: Session, actors: dict[int, Actor]) -> list[Chip]:
     """The chips of the actors that are in a call."""
-    busy = [actor for actor, reply in replies.items() if not reply.startswith("actor Idle ")]
+    busy = [number for number, actor in actors.items() if not actor.is_idle()]
     text = model.PAGE.read_text(encoding="utf-8")
-    page, (steps, _) = model.lines_of(text), model.read(text)
+    page, (rows, _) = model.lines_of(text), model.read(text)
     tried = next_steps(session, busy)
-    return [chip_of(actor, replies[actor], tried[actor], page, steps) for actor in busy]
+    return [chip_of(number, actors[number], tried[number], page, rows) for number in busy]
 
 
 # ---- The last step --------------------------------------------------------------------------------
 
 
-def written(place: str, access: str) -> list[str]:
-    """The places that a step wrote, by its record. A cell has two halves."""
-    kind, _, rest = place.partition(" ")
-    if access == "wrote index":
-        return [f"index {rest}"]
-    if access != "wrote":
-        return []
-    return [f"value {rest}", f"index {rest}"] if kind == "cell" else [place]
-
-
-def last_of(session: Session) -> Step | None:
+def last_of(session: Session) -> Last | None:
     """The last live step, if there is one."""
     if not session.live:
         return None
-    record = session.ask([f"step {session.live}"])[0]
-    _, event, place, access, _, _ = record.split("; ")
-    actor = int(event.split(" ")[1])
-    point = session.ask(["back 1", f"actor {actor}"])[1].split(" ")[1]
-    return Step(session.live, actor, point, record, written(place, access))
-
-
-def sentence_of(step: Step) -> str:
-    """A step in words."""
-    _, event, place, access, answer, reply = step.record.split("; ")
-    begins = f"step {step.number}: actor {step.actor}"
-    if place == "-":
-        return f"{begins}, {event}"
-    replies = "" if reply == "-" else f"; the call replied {reply}"
-    access = "wrote the index half of" if access == "wrote index" else access
-    return f"{begins} at {step.point} {access} {place}: {answer}{replies}"
+    step = Step.read(session.ask([f"step {session.live}"])[0])
+    return Last(step, Actor.read(session.ask(["back 1", f"actor {step.event.actor}"])[1]).point)
 
 
 # ---- The moment -----------------------------------------------------------------------------------
@@ -278,18 +254,18 @@ def moment_of(arguments: argparse.Namespace) -> tuple[Moment, str]:
     line: int | None = arguments.lines
     if line and count < line:
         raise Fault(f"the {kind_of(arguments)} has {count} lines: --line names one of them")
-    replies = actors_of(session)
-    ends = content_of(session, ["qhead", "qtail"])
-    array = content_of(session, ["ahead", "atail", *(f"acell {slot}" for slot in range(SLOTS))])
-    names = names_of(session, replies)
-    chips, last = chips_of(session, replies), last_of(session)
-    places = [*(chip.place for chip in chips), *(last.places if last else [])]
-    near = {*ends.values(), *map(segment_of, places)}
+    actors = actors_of(session)
+    ends = contents_of(session, ["qhead", "qtail"])
+    array = contents_of(session, ["ahead", "atail", *(f"acell {slot}" for slot in range(SLOTS))])
+    names = names_of(session, actors)
+    chips, last = chips_of(session, actors), last_of(session)
+    places = [*(chip.place for chip in chips if chip.place), *(last.places() if last else [])]
+    near = {*ends.values(), *(Place.read(place).segment for place in places)}
     title, caption = titles_of(arguments, session)
     moment = Moment(
         title, caption, session.world(), ends["qhead"], ends["qtail"],
         segments_of(session, names, session.ring, [*ends.values()]), array, chips,
-        [actor for actor, reply in replies.items() if reply.startswith("actor Idle ")], last, near,
+        [number for number, actor in actors.items() if actor.is_idle()], last, near,
         session.viewers[-1] if session.viewers else 0,
     )
     return moment, session.refused
@@ -309,7 +285,7 @@ def parser() -> argparse.ArgumentParser:
 def drawn_of(arguments: argparse.Namespace) -> tuple[str, str]:
     """The moment that is asked for as SVG, and what to say of refused lines."""
     moment, refused = moment_of(arguments)
-    said = sentence_of(moment.last) if moment.last else "no step yet"
+    said = moment.last.sentence() if moment.last else "no step yet"
     return draw(moment, said), refused
 
 

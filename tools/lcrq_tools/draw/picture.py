@@ -50,11 +50,12 @@ from typing import TypedDict
 
 from lcrq_tools.draw.askers import viewers_after
 from lcrq_tools.draw.drawing import draw
-from lcrq_tools.draw.figure import Session, kind_of, script_name, segment_of, write_drawn
-from lcrq_tools.draw.lanes import Call, Picture, Row, actor_lane, dot_of, order_of
+from lcrq_tools.draw.figure import Session, in_order, kind_of, script_name, write_drawn
+from lcrq_tools.draw.lanes import Call, Picture, Row, actor_lane, actor_of, lanes_at, lanes_of, order_of, row_of
 from lcrq_tools.faults import Fault
 from lcrq_tools.options import number_above_0, run_parser
 from lcrq_tools.program import Broken, Driven
+from lcrq_tools.records import Actor, Counts, Place, Refusal, Step, content_of, read_reply, stand_of
 
 MOST_ROWS = 200
 
@@ -68,38 +69,14 @@ def records_of(session: Session) -> list[str]:
     return session.ask([*forward, *(f"step {number}" for number in range(1, count + 1))])[-count:]
 
 
-def row_of(number: int, record: str, live: int) -> Row:
-    """The row of a step by its record, without its dots and its control point."""
-    _, event, place, access, answer, reply = record.split("; ")
-    word, actor, *rest = event.split(" ")
-    point = "" if word == "go" else " ".join(rest if word == "starve" else [word, *rest])
-    name, begins = str(number) if number <= live else "undone", word not in ("go", "starve")
-    return Row(name, number, int(actor), point, begins, place, access, answer, "" if reply == "-" else reply)
-
-
 def rows_of(session: Session) -> list[Row]:
     """The rows of all steps, each with its viewer where the run has viewers."""
-    rows = [row_of(at, record, session.live) for at, record in enumerate(records_of(session), 1)]
+    rows = [row_of(step, step.number > session.live) for step in map(Step.read, records_of(session))]
     if session.viewers:
         lines = len(session.viewers)
         for row, viewer in zip(rows, viewers_after(session, [lines])[lines]):
             row.viewer = viewer
     return rows
-
-
-def parts_of(place: str) -> list[str]:
-    """The places of one place of a step: the halves of a cell, or itself."""
-    kind, _, rest = place.partition(" ")
-    if kind == "cell":
-        return [f"value {rest}", f"index {rest}"]
-    return [] if place == "-" else [place]
-
-
-def are_one(place: str, other: str) -> bool:
-    """Whether two names of places name one place of memory: a segment has all that are of it."""
-    if "whole" in (place.split(" ")[0], other.split(" ")[0]):
-        return segment_of(place) == segment_of(other) != ""
-    return not set(parts_of(place)).isdisjoint(parts_of(other))
 
 
 # ---- Which steps are drawn ------------------------------------------------------------------------
@@ -112,17 +89,17 @@ class Choice:
 
     first: int
     last: int
-    places: list[str]
+    places: list[Place]
     actors: list[int]
 
     def has(self, row: Row) -> bool:
         """Whether this step is drawn, if it is among the first to the last."""
         is_any = not self.places and not self.actors
-        return is_any or row.actor in self.actors or any(are_one(row.place, place) for place in self.places)
+        return is_any or row.actor() in self.actors or any(map(row.step.place.overlaps, self.places))
 
     def words(self) -> str:
         """Where the steps are or whose they are, in words; nothing where all are drawn."""
-        places = [f"at {' or '.join(self.places)}"] if self.places else []
+        places = [f"at {' or '.join(map(str, self.places))}"] if self.places else []
         actors = [f"of actor {' or '.join(map(str, self.actors))}"] if self.actors else []
         return " or ".join([*places, *actors])
 
@@ -131,7 +108,7 @@ class Choice:
         chosen = [row for row in rows[self.first - 1: self.last] if self.has(row)]
         if asked and not self.first <= asked <= self.last:
             raise Fault(f"step {asked} is not among the steps {self.first} to {self.last} that are drawn")
-        if asked and asked not in [row.number for row in chosen]:
+        if asked and asked not in [row.step.number for row in chosen]:
             raise Fault(f"step {asked} is not drawn, since it is not {self.words()}")
         if not chosen:
             raise Fault(f"no step from {self.first} to {self.last} is {self.words()}")
@@ -167,7 +144,7 @@ def actors_of(arguments: argparse.Namespace, session: Session) -> list[int]:
     return sorted(map(int, words))
 
 
-def places_of(arguments: argparse.Namespace, session: Session) -> list[str]:
+def places_of(arguments: argparse.Namespace, session: Session) -> list[Place]:
     """The places that are chosen, each of which the program has to show at the end of the run."""
     texts: list[str] | None = arguments.places
     words = words_of(texts)
@@ -176,36 +153,21 @@ def places_of(arguments: argparse.Namespace, session: Session) -> list[str]:
             raise Fault(f"--places {word!a}: no place has such a name")
     forward = [f"forward {session.undone}"] if words else []
     for word, reply in zip(words, session.ask([*forward, *(f"show {word}" for word in words)])[1:]):
-        if not reply.startswith("is "):
+        if not content_of(reply):
             raise Fault(f"--places {word!a}: {reply}")
-    return words
+    return [Place.read(word) for word in words]
 
 
 # ---- Lanes ----------------------------------------------------------------------------------------
 
 
-def lanes_of(place: str, shown: Collection[str]) -> list[str]:
-    """The lanes of a place: those of its halves for a cell, and all that are shown of a segment."""
-    if place.startswith("whole "):
-        return [lane for lane in shown if segment_of(lane) == segment_of(place)]
-    return parts_of(place)
-
-
-def lanes_at(place: str) -> list[str]:
-    """The lanes that a place has to have: a cell both, and a segment that is made its tail and its
-    first cell at least, in which the value is."""
-    kind, _, rest = place.partition(" ")
-    if kind == "whole":
-        return [f"tail {rest}", f"value {rest} 0", f"index {rest} 0"]
-    return parts_of(f"cell {rest}" if kind in ("value", "index") else place)
-
-
 def places_drawn(rows: list[Row], choice: Choice) -> list[str]:
     """The lanes of memory that a picture of these rows has: those of their places, and of what is
     chosen of segments that they make."""
-    makings = [row.place for row in rows if row.place.startswith("whole ")]
-    chosen = [place for place in choice.places if any(are_one(place, making) for making in makings)]
-    return list(dict.fromkeys(lane for place in [*(row.place for row in rows), *chosen] for lane in lanes_at(place)))
+    touched = [row.step.place for row in rows]
+    makings = [place for place in touched if place.kind == "whole"]
+    chosen = [place for place in choice.places if any(map(place.overlaps, makings))]
+    return list(dict.fromkeys(lane for place in [*touched, *chosen] for lane in lanes_at(place)))
 
 
 def actors_drawn(rows: list[Row], choice: Choice, stands: dict[str, str]) -> list[str]:
@@ -214,21 +176,7 @@ def actors_drawn(rows: list[Row], choice: Choice, stands: dict[str, str]) -> lis
     busy = [actor for actor in stands if stands[actor]]
     if choice.words():
         busy = [actor for actor in busy if actor in map(actor_lane, choice.actors)]
-    return list(dict.fromkeys([*(actor_lane(row.actor) for row in rows), *busy]))
-
-
-def chain_of(nexts: dict[str, str], ends: list[str]) -> tuple[list[str], set[str]]:
-    """The names of all segments, linked ones first in the order of their links, and the set of
-    those that were never linked, by what follows each and by the queue's ends."""
-    named = set(nexts.values())
-    begins = [name for name in nexts if name not in named and (name in ("0.0", *ends) or nexts[name] != "none")]
-    chain: dict[str, None] = {}
-    for name in [*begins, *ends, *(name for name in nexts if name in named)]:
-        while name in nexts and name not in chain:
-            chain[name] = None
-            name = nexts[name]
-    apart = [name for name in nexts if name not in chain]
-    return [*chain, *apart], set(apart)
+    return list(dict.fromkeys([*(actor_lane(row.actor()) for row in rows), *busy]))
 
 
 # ---- What the program replies along the run --------------------------------------------------------
@@ -263,20 +211,20 @@ def trace_of(arguments: argparse.Namespace) -> Start:
 def segments_of(rows: list[Row], start: Start) -> list[str]:
     """The names of the segments of a run: the root, those of the trace, and those of its steps."""
     given = [f"{maker}.{at}" for maker, made in enumerate(start.get("segments", [])) for at in range(len(made))]
-    return list(dict.fromkeys(["0.0", *given, *filter(None, (segment_of(row.place) for row in rows))]))
+    return list(dict.fromkeys(["0.0", *given, *filter(None, (row.step.place.segment for row in rows))]))
 
 
 def questions_of(row: Row, lanes: Collection[str], before: int) -> list[str]:
     """What is asked about a step, before it is made and after it, from behind this step on."""
-    shows = [f"show {lane}" for lane in lanes_of(row.place, lanes)]
-    return [f"forward {row.number - before - 1}", f"actor {row.actor}", *shows, "forward 1", *shows]
+    shows = [f"show {lane}" for lane in lanes_of(row.step.place, lanes)]
+    return [f"forward {row.step.number - before - 1}", actor_lane(row.actor()), *shows, "forward 1", *shows]
 
 
 def ask_along(session: Session, first: int, rows: list[Row], lanes: list[str], names: list[str]) -> Replies:
     """Goes along the run from this step to the end, and asks about its rows and its lanes of
     memory."""
     actors = [actor_lane(actor) for actor in range(1, session.actors + 1)]
-    before = [first - 1, *(row.number for row in rows)]
+    before = [first - 1, *(row.step.number for row in rows)]
     parts = [
         session.moved_to(first),
         [*actors, *(f"show {lane}" for lane in lanes)],
@@ -291,27 +239,11 @@ def ask_along(session: Session, first: int, rows: list[Row], lanes: list[str], n
     return Replies(stands, about, dict(zip(names, nexts)), [head, tail])
 
 
-def content_of(reply: str) -> str:
-    """What is at a place, by the reply to `show`; nothing if there is no such place."""
-    return reply.removeprefix("is ") if reply.startswith("is ") else ""
-
-
-def stand_of(reply: str) -> str:
-    """Where an actor is, or what is at a place, by the reply; nothing for one that is in no call."""
-    if not reply.startswith("actor "):
-        return content_of(reply)
-    words = reply.split(" crq ")[0].split(" ")[1:]
-    return "" if words[0] == "Idle" else " ".join(words)
-
-
 def fill_row(row: Row, lanes: Collection[str], replies: list[str]) -> None:
     """Puts what the program replied about a step into its row."""
-    touched = lanes_of(row.place, lanes)
-    point = replies[1].split(" ")[1]
-    if point != "Idle":
-        row.point = f"{point} {row.point}".strip()
-    shows = zip(touched, replies[2:], replies[len(touched) + 3:])
-    row.dots = [dot_of(row.access, row.answer, lane, content_of(old), content_of(new)) for lane, old, new in shows]
+    touched = lanes_of(row.step.place, lanes)
+    shows = zip(touched, map(content_of, replies[2:]), map(content_of, replies[len(touched) + 3:]))
+    row.fill(Actor.read(replies[1]), shows)
 
 
 def calls_of(rows: list[Row], stands: dict[str, str], lanes: Collection[str]) -> list[Call]:
@@ -319,12 +251,12 @@ def calls_of(rows: list[Row], stands: dict[str, str], lanes: Collection[str]) ->
     drawn, and by where the actors are before them."""
     calls, begun = [], {lane: 0 for lane, stand in stands.items() if stand}
     for row in rows:
-        lane = actor_lane(row.actor)
-        if row.begins:
-            begun[lane] = row.number
-        if row.reply:
-            calls.append(Call(row.actor, begun.pop(lane), row.number))
-    calls += [Call(int(lane.split(" ")[1]), begin, None) for lane, begin in begun.items()]
+        lane = actor_lane(row.actor())
+        if row.step.event.is_call():
+            begun[lane] = row.step.number
+        if row.step.reply:
+            calls.append(Call(row.actor(), begun.pop(lane), row.step.number))
+    calls += [Call(actor_of(lane), begin, None) for lane, begin in begun.items()]
     return [call for call in calls if actor_lane(call.actor) in lanes]
 
 
@@ -334,25 +266,25 @@ def calls_of(rows: list[Row], stands: dict[str, str], lanes: Collection[str]) ->
 def shared_lane(one: Row, other: Row) -> str:
     """The lane on which two rows have dots of which one is filled: that of their actor, or the
     first of memory."""
-    if one.actor == other.actor:
-        return actor_lane(one.actor)
+    if one.actor() == other.actor():
+        return actor_lane(one.actor())
     dots = {dot.lane: dot for dot in one.dots}
     for dot in other.dots:
         if dot.lane in dots and "wrote" in (dot.kind, dots[dot.lane].kind):
             return dot.lane
-    raise Fault(f"steps {one.number} and {other.number} share no lane")
+    raise Fault(f"steps {one.step.number} and {other.step.number} share no lane")
 
 
 def ask_undo(session: Session, picture: Picture, step: int) -> None:
     """Marks what `undo K` is answered."""
     line = f"undo {step}"
-    reply = session.ask([line])[0]
+    reply = read_reply(session.ask([line])[0])
     picture.asked = f"{line}: {reply}"
-    at_step = {row.number: at for at, row in enumerate(picture.rows)}
-    if reply.startswith("at "):
+    at_step = {row.step.number: at for at, row in enumerate(picture.rows)}
+    if isinstance(reply, Counts):
         picture.frame = at_step[step]
-    elif reply.startswith("refused 13 "):
-        later = int(reply.split(" ")[3])
+    elif isinstance(reply, Refusal) and reply.name == "Depended":
+        later = int(reply.data[0])
         if later > picture.last:
             raise Fault(f"{picture.asked}, which is after the last row: --to {later} has it")
         if later not in at_step:
@@ -366,16 +298,16 @@ def ask_undo(session: Session, picture: Picture, step: int) -> None:
 def ask_roll(session: Session, picture: Picture, step: int, rows: list[Row]) -> None:
     """Marks the rows that `roll K` takes: the last ones of each actor, as many as have gone."""
     line = f"roll {step}"
-    picture.asked = f"{line}: {session.ask([line])[0]}"
-    words = picture.asked.split(" ")
-    if words[2] != "at":
+    reply = read_reply(session.ask([line])[0])
+    picture.asked = f"{line}: {reply}"
+    if not isinstance(reply, Counts):
         raise Fault(picture.asked)
-    taken = int(words[4]) - session.undone
-    asked = [f"step {it}" for it in range(int(words[3]) + 1, session.live + 1)]
-    gone = Counter(row_of(0, record, 0).actor for record in session.ask([line, f"forward {taken}", *asked])[2:])
+    taken = reply.undone - session.undone
+    asked = [f"step {number}" for number in range(reply.live + 1, session.live + 1)]
+    gone = Counter(Step.read(text).event.actor for text in session.ask([line, f"forward {taken}", *asked])[2:])
     for row in reversed(rows[: session.live]):
-        row.goes = gone[row.actor] > 0
-        gone[row.actor] -= 1
+        row.goes = gone[row.actor()] > 0
+        gone[row.actor()] -= 1
     picture.hidden = taken - sum(row.goes for row in picture.rows)
 
 
@@ -387,8 +319,8 @@ def ask_free(session: Session, picture: Picture) -> None:
         with Driven(session.words) as driven:
             for line in session.script.decode("latin-1").split("\n")[:-1]:
                 driven.ask(line)
-            for row in reversed([row for row in picture.rows if row.number <= session.live]):
-                row.is_free = driven.ask(f"undo {row.number}")[0].startswith("at ")
+            for row in reversed([row for row in picture.rows if not row.is_undone]):
+                row.is_free = driven.ask(f"undo {row.step.number}")[0].startswith("at ")
                 if row.is_free:
                     driven.ask("redo")
     except (Broken, OSError) as fault:
@@ -411,13 +343,14 @@ def drawn_rows(session: Session, choice: Choice, all_rows: list[Row], rows: list
     replies = ask_along(session, choice.first, rows, memory, segments_of(all_rows, start))
     for row, about in zip(rows, replies.rows):
         fill_row(row, memory, about)
-    actors = {lane: stand for lane, stand in replies.start.items() if lane.startswith("actor ")}
-    chain, apart = chain_of(replies.nexts, replies.ends)
+    actors = {lane: stand for lane, stand in replies.start.items() if actor_of(lane)}
+    linked, apart = in_order(replies.nexts, replies.ends)
     lanes = [*actors_drawn(rows, choice, actors if name else {}), *memory]
+    chain = [*linked, *apart]
     lanes.sort(key=lambda lane: order_of(lane, chain))
     stands = {lane: replies.start[lane] for lane in lanes}
     picture = Picture("", lanes, rows, stands, choice.first, choice.last, name, choice.words())
-    picture.apart = apart & set(map(segment_of, memory))
+    picture.apart = {*apart} & {Place.read(lane).segment for lane in memory}
     picture.calls = calls_of(all_rows[choice.first - 1: choice.last], actors, lanes)
     return picture
 

@@ -6,14 +6,13 @@ gives the same bytes.
 
 from collections.abc import Iterable, Iterator, Sequence
 from typing import TYPE_CHECKING
-from xml.sax.saxutils import quoteattr
 
 from lcrq_tools.draw.boxes import (
     COUNTER, FOOT, GAP, HEADING, LABEL, LANES, LINE, LINK, PILL, PIN, VALUE, Counter, Layout, Shown, Strip, value_size,
 )
 from lcrq_tools.draw.figure import (
     ASKED, ASKED_WORDS, BAND, DARK, GREY, GROUND, HEAD, LANE, MARGIN, PLAIN, SMALL,
-    colour_of, element, group, mixed, number, svg, width_of, words_at,
+    colour_of, element, group, mixed, number, quoted, svg, width_of, words_at,
 )
 from lcrq_tools.draw.viewer_marks import mark_at, viewer_name, width_of_marks
 
@@ -25,7 +24,7 @@ APART = "never linked so far: no segment has one of these as its next"
 
 def named(kind: str, lines: Iterable[str], **names: object) -> list[str]:
     """A group that names what it shows."""
-    given = "".join(f" data-{name}={quoteattr(str(value))}" for name, value in names.items())
+    given = "".join(f" data-{name}={quoted(str(value))}" for name, value in names.items())
     return [f'<g class="{kind}"{given}>', *lines, "</g>"]
 
 
@@ -33,8 +32,8 @@ class Marks:
     """What the last step wrote, and its colours."""
 
     def __init__(self, moment: "Moment") -> None:
-        self.places = moment.last.places if moment.last else []
-        self.colour, self.dark = colour_of(moment.last.actor) if moment.last else (LANE, DARK)
+        self.places = moment.last.places() if moment.last else []
+        self.colour, self.dark = colour_of(moment.last.actor()) if moment.last else (LANE, DARK)
 
     def kind(self, place: str) -> str:
         """The class of a place's group."""
@@ -242,7 +241,7 @@ def sentences(moment: "Moment", said: str) -> Iterator[str]:
     """The moment in words."""
     yield f"{said}."
     for segment in moment.segments:
-        cells = "; ".join(f"cell {at} is {content}" for at, content in enumerate(segment.cells))
+        cells = "; ".join(f"cell {index} is {cell}" for index, cell in enumerate(segment.cells))
         linked = "" if segment.is_linked else ", never linked so far"
         yield f"Segment {segment.name}{linked}: head {segment.head}, tail {segment.tail}, next {segment.next}; {cells}."
     yield f"QHead is {moment.qhead}, QTail is {moment.qtail}."

@@ -36,6 +36,7 @@ from string import Template
 
 from lcrq_tools import model
 from lcrq_tools.draw.figure import ACTORS, kind_of, script_name, write_drawn
+from lcrq_tools.draw.lanes import actor_of
 from lcrq_tools.faults import Fault
 from lcrq_tools.options import run_parser
 from lcrq_tools.page import page_lanes, page_moments, page_parts
@@ -43,6 +44,7 @@ from lcrq_tools.page.page_lanes import Lanes
 from lcrq_tools.page.page_viewers import Marks
 from lcrq_tools.page.run_rows import Rows, filled_rows
 from lcrq_tools.page.run_states import Asked, State, states_of
+from lcrq_tools.records import stand_of
 
 MOST_LINES, MOST_ROWS = 400, 800
 PARTS = Path(__file__).resolve().parent
@@ -69,20 +71,11 @@ def shown_rows(states: list[State], rows: Rows, above: int) -> list[int]:
     return shown
 
 
-def stand_of(reply: str) -> str:
-    """Where an actor is, or what is at a place, by the reply; nothing for one that is in no call."""
-    if reply.startswith("actor Idle "):
-        return ""
-    if reply.startswith("actor "):
-        return reply.partition(" crq ")[0].removeprefix("actor ")
-    return reply.removeprefix("is ") if reply.startswith("is ") else ""
-
-
 def start_of(asked: Asked, lanes: list[str], above: int) -> dict[str, str]:
     """What is on each lane before the first row that is shown."""
     session = asked.at(asked.first)
     moves = session.moved_to(above + 1)
-    lines = [lane if lane.startswith("actor ") else f"show {lane}" for lane in lanes]
+    lines = [lane if actor_of(lane) else f"show {lane}" for lane in lanes]
     return dict(zip(lanes, map(stand_of, session.ask([*moves, *lines])[len(moves):])))
 
 
@@ -147,7 +140,7 @@ def page_of(arguments: argparse.Namespace) -> tuple[str, str]:
     return made_of(arguments, asked, states, Rows(states)), asked.session.refused
 
 
-def lanes_of(arguments: argparse.Namespace, asked: Asked, states: list[State], rows: Rows, above: int) -> Lanes:
+def drawing_of(arguments: argparse.Namespace, asked: Asked, states: list[State], rows: Rows, above: int) -> Lanes:
     """The drawing of the steps, of which so many stand above the first row."""
     drawn, lanes = filled_rows(asked, states, rows, shown_rows(states, rows, above))
     name = f"after {above}" if above else "start" if arguments.trace else ""
@@ -173,7 +166,7 @@ def made_of(arguments: argparse.Namespace, asked: Asked, states: list[State], ro
     whys, chips = page_moments.whys_of(states), [page_moments.chips_of(it, code, steps) for it in states]
     sentences = page_moments.sentences_of(states, whys)
     above = above_of(states, rows)
-    figure = lanes_of(arguments, asked, states, rows, above)
+    figure = drawing_of(arguments, asked, states, rows, above)
     marks = figure.marks
     moments = page_moments.differences_of(page_moments.whole_states(states, chips, sentences))
     lines = (page_parts.line_item(it, why, marks.in_line(it.viewer)) for it, why in zip(states, whys))

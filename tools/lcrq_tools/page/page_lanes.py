@@ -9,36 +9,16 @@ from typing import TypedDict
 
 from lcrq_tools.draw.drawing import dot_at, over
 from lcrq_tools.draw.figure import (
-    BAND, DARK, GREY, GROUND, HEAD, LANE, MARGIN, PLAIN, SMALL,
-    colour_of, element, number, segment_of, width_of, words_at,
+    BAND, DARK, GREY, GROUND, HEAD, LANE, MARGIN, PLAIN, SMALL, colour_of, element, number, width_of, words_at,
 )
+from lcrq_tools.draw.lanes import Row, actor_lane, actor_of, band_of, heading_of, name_of
 from lcrq_tools.page.page_parts import actor_class
 from lcrq_tools.page.page_viewers import Marks
-from lcrq_tools.page.run_rows import Row
+from lcrq_tools.records import Place
 
 # Sizes of the drawing, in its pixels, and how large these are.
 TOP, LINE, BORDER, HALF, GAP = 56, 20, 24, 10, 14
 SCALE = 1.22 / 16  # of such a pixel, in the page's letters
-
-
-def actor_of(lane: str) -> int:
-    """The actor of a lane; 0 for a lane of memory."""
-    return int(lane.split(" ")[1]) if lane.startswith("actor ") else 0
-
-
-def name_of(lane: str) -> str:
-    """What is above a lane of memory."""
-    kind, *rest = lane.split(" ")
-    if kind == "acell":
-        return f"slot {rest[0]}"
-    return {"index": "safe idx", "ahead": "head", "atail": "tail"}.get(kind, kind)
-
-
-def band_of(lane: str) -> str:
-    """The heading of the band in which a lane is; none for an actor's."""
-    if lane in ("qhead", "qtail"):
-        return "queue"
-    return "" if actor_of(lane) else f"segment {segment_of(lane)}" if segment_of(lane) else "array"
 
 
 class Dots(TypedDict):
@@ -74,7 +54,7 @@ class Lanes:
             at = self.at[lane] + after + GAP / 2
         if not band:
             return at
-        right = max(at, left + width_of(band, HEAD, True) + 2 * GAP)
+        right = max(at, left + width_of(heading_of(band), HEAD, True) + 2 * GAP)
         self.bands.append((band, round(left), round(right)))
         return right
 
@@ -85,10 +65,10 @@ class Lanes:
             texts = [start, *(dot.text for row in self.rows.values() for dot in row.dots if dot.lane == lane)]
             half = width_of(name_of(lane), SMALL) / 2 + 2
             return max(half, 12.0), max([half, *(width_of(text, SMALL, True) + 10 for text in texts)])
-        rows = [row for row in self.rows.values() if row.actor == actor_of(lane)]
+        rows = [row for row in self.rows.values() if row.actor() == actor_of(lane)]
         half = width_of(lane, HEAD, True) / 2 + 2
         lefts = [width_of(text, PLAIN) + 16 for text in (start, *(row.point for row in rows))]
-        return max([half, *lefts]), max([half, *(width_of(row.reply, PLAIN, True) + 14 for row in rows)])
+        return max([half, *lefts]), max([half, *(width_of(row.step.reply, PLAIN, True) + 14 for row in rows)])
 
     def open(self, kind: str, height: int) -> str:
         """The beginning of one of the two drawings."""
@@ -105,11 +85,12 @@ class Lanes:
         lines = []
         for band, left, right in self.bands:
             lines.append(element("rect", x=left, y=4, width=right - left, height=TOP - 4, fill=BAND))
-            lines.append(words_at(left + GAP, 19, band, HEAD, DARK, bold=True))
+            lines.append(words_at(left + GAP, 19, heading_of(band), HEAD, DARK, bold=True))
         for lane, x in self.at.items():
-            if lane.startswith("value "):
-                middle = (x + self.at[f"index {lane.partition(' ')[2]}"]) / 2
-                lines.append(words_at(middle, 34, f"cell {lane.split(' ')[2]}", PLAIN, DARK, "middle"))
+            place = Place.read(lane)
+            if place.kind == "value":
+                middle = (x + self.at[str(place.half("index"))]) / 2
+                lines.append(words_at(middle, 34, f"cell {place.index}", PLAIN, DARK, "middle"))
             actor = actor_of(lane)
             if actor:
                 words = words_at(x, 34, lane, HEAD, colour_of(actor)[1], "middle", True)
@@ -140,7 +121,7 @@ class Lanes:
 
     def row(self, at: int, row: Row) -> str:
         """A row. Its number is filled in, and so is where it is."""
-        x, (colour, dark) = self.at[f"actor {row.actor}"], colour_of(row.actor)
+        x, (colour, dark) = self.at[actor_lane(row.actor())], colour_of(row.actor())
         end = max((self.at[dot.lane] for dot in row.dots), default=x)
         lines = [
             element("rect", class_="ground", x=1, y=1 - HALF, width=self.width - 2, height=LINE - 2, rx=4),
@@ -148,14 +129,14 @@ class Lanes:
             self.marks.in_row(row.viewer, self.numbers + 6),
             element("line", x1=x, y1=0, x2=end, y2=0, stroke=colour, stroke_opacity=0.6),
             words_at(x - 9, 4, row.point, PLAIN, DARK, "end"),
-            *over(x, 0, row.reply, PLAIN, dark, GROUND, True),
+            *over(x, 0, row.step.reply, PLAIN, dark, GROUND, True),
             dot_at("wrote", x, 0, colour),
         ]
         for dot in row.dots:
             is_write = dot.kind == "wrote"
             lines += over(self.at[dot.lane], 0, dot.text, SMALL, DARK if is_write else GREY, BAND, is_write)
             lines.append(dot_at(dot.kind, self.at[dot.lane], 0, colour))
-        kind = f'class="row {actor_class(row.actor)} away" data-row="{at}" tabindex="-1" role="listitem"'
+        kind = f'class="row {actor_class(row.actor())} away" data-row="{at}" tabindex="-1" role="listitem"'
         return f'<g {kind} data-about="{escape(row.sentence(), quote=True)}.">{"".join(lines)}</g>'
 
     def body(self) -> str:
@@ -174,5 +155,5 @@ class Lanes:
         found: dict[int, Dots] = {}
         for at, row in self.rows.items():
             dots = {lanes[dot.lane]: int(dot.kind == "wrote") for dot in row.dots}
-            found[at] = {"actor": row.actor, "dots": {lanes[f"actor {row.actor}"]: 1} | dots}
+            found[at] = {"actor": row.actor(), "dots": {lanes[actor_lane(row.actor())]: 1} | dots}
         return found

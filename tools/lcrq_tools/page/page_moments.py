@@ -11,7 +11,8 @@ from typing import TypedDict
 
 from lcrq_tools import manual, model
 from lcrq_tools.draw import moment
-from lcrq_tools.page.run_states import State, event_of
+from lcrq_tools.page.run_states import State
+from lcrq_tools.records import Refusal, is_made, read_reply
 
 MOST_NAMED = 4  # steps or places in one sentence
 
@@ -19,10 +20,10 @@ MOST_NAMED = 4  # steps or places in one sentence
 # ---- Actors and steps -----------------------------------------------------------------------------
 
 
-def chips_of(it: State, page: moment.Code, steps: dict[str, model.Step]) -> dict[int, dict[str, str] | None]:
+def chips_of(state: State, page: moment.Code, rows: dict[str, model.Step]) -> dict[int, dict[str, str] | None]:
     """What each actor is about to do; nothing of one that is in no call."""
-    chips = [moment.chip_of(actor, it.actors[actor], tried, page, steps) for actor, tried in it.tried.items()]
-    return dict.fromkeys(it.actors) | {chip.actor: about(chip) for chip in chips}
+    chips = [moment.chip_of(actor, state.actors[actor], tried, page, rows) for actor, tried in state.tried.items()]
+    return dict.fromkeys(state.actors) | {chip.actor: about(chip) for chip in chips}
 
 
 def about(chip: moment.Chip) -> dict[str, str]:
@@ -32,18 +33,17 @@ def about(chip: moment.Chip) -> dict[str, str]:
     return {"point": chip.point, "call": chip.call, "words": words, "note": note, "place": chip.place}
 
 
-def written_by_last(it: State) -> list[str]:
+def written_by_last(state: State) -> list[str]:
     """The places that the last live step wrote."""
-    if not it.live:
-        return []
-    _, _, place, access, _, _ = it.records[it.live - 1].split("; ")
-    return moment.written(place, access)
+    return [str(place) for place in state.steps[state.live - 1].wrote()] if state.live else []
 
 
-def named_rows(it: State) -> list[int]:
+def named_rows(state: State) -> list[int]:
     """The rows that a refused undo is about: of that step, and of the one that the reply names."""
-    asked, refused = re.fullmatch(r"undo (\d+)", it.text), re.fullmatch(r"refused 13 Depended (\d+)", it.reply)
-    return [it.rows[int(found[1]) - 1] for found in (asked, refused)] if asked and refused else []
+    asked, refused = re.fullmatch(r"undo (\d+)", state.text), read_reply(state.reply)
+    if not asked or not isinstance(refused, Refusal) or refused.name != "Depended":
+        return []
+    return [state.rows[int(number) - 1] for number in (asked[1], refused.data[0])]
 
 
 # ---- In words -------------------------------------------------------------------------------------
@@ -58,7 +58,7 @@ def listed(parts: list[str]) -> str:
 def moves_of(before: State, after: State) -> str:
     """Which steps a line undid and which it made again, in words."""
     was, now = before.rows[: before.live], after.rows[: after.live]
-    events = dict(zip([*before.rows, *after.rows], map(event_of, [*before.records, *after.records])))
+    events = dict(zip([*before.rows, *after.rows], (step.event for step in (*before.steps, *after.steps))))
     undone = [f"step {at}, {events[row]}" for at, row in enumerate(was, 1) if row not in now]
     made = [f"{events[row]}, step {at} now" for at, row in enumerate(now, 1) if row not in was]
     parts = [("Undone: ", undone), ("Made again: ", made)]
@@ -75,13 +75,11 @@ def contents_of(before: State, after: State) -> str:
 
 def what_changed(before: State, after: State, why: str) -> str:
     """What a line changed, in words."""
-    if after.reply.startswith("refused "):
+    if why:
         return f"Nothing changes. {why}"
-    if after.reply.startswith("ok "):
-        record = after.records[after.live - 1]
-        actor = int(event_of(record).split(" ")[1])
-        point = before.actors[actor].split(" ")[1]
-        said = moment.sentence_of(moment.Step(after.live, actor, point, record, []))
+    if is_made(after.reply):
+        step = after.steps[after.live - 1]
+        said = moment.Last(step, before.actors[step.event.actor].point).sentence()
         return f"{said[0].upper()}{said[1:]}."
     moved = moves_of(before, after)
     return f"{moved} {contents_of(before, after)}".strip() if moved else "Nothing changes."
@@ -101,7 +99,8 @@ def sentences_of(states: list[State], whys: list[str]) -> list[str]:
 def whys_of(states: list[State]) -> list[str]:
     """Why each line is refused, by the manual; nothing where it isn't."""
     refusals = manual.refusals()
-    return [refusals[it.reply.split(" ")[1]] if it.reply.startswith("refused ") else "" for it in states]
+    replies = [read_reply(state.reply) for state in states]
+    return [refusals[str(reply.number)] if isinstance(reply, Refusal) else "" for reply in replies]
 
 
 # ---- States and their differences -----------------------------------------------------------------

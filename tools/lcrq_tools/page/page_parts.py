@@ -9,6 +9,7 @@ from html import escape
 from lcrq_tools import model
 from lcrq_tools.draw.figure import ACTORS, BAND, DARK, GREY, GROUND, LANE, width_of
 from lcrq_tools.page.run_states import State, touched_by
+from lcrq_tools.records import Cell, Place
 
 PINS, DISC = 2, 1.35  # discs beside each other, and the room of one, in the page's letters
 SHORT = 6  # digits of a value that is written large
@@ -100,7 +101,7 @@ def pins_at(them: list[Chips]) -> dict[str, int]:
     abouts = [[about for about in it.values() if about] for it in them]
     needs: dict[str, int] = {}
     for place, count in most_at([[about["place"] for about in it if about["place"]] for it in abouts]).items():
-        kind = WHERE[place.split(" ")[0]]
+        kind = WHERE[Place.read(place).kind]
         needs[kind] = max(needs.get(kind, 0), count)
     for count in most_at([[about["point"] for about in it] for it in abouts]).values():
         needs["point"] = max(needs.get("point", 0), count)
@@ -117,17 +118,22 @@ def room(states: list[State], them: list[Chips]) -> str:
             rules.append(f".place.{kind} {{ min-height: {high + 0.1:.2f}rem; }}")
         elif kind in widths and widths[kind] + wide > max(CELL, *(widths[it] for it in HALVES)):
             rules.append(f".place.{kind} {{ flex-direction: column; align-items: flex-start; }}")
-    cells = {content for it in states for name, content in it.places.items() if name.startswith("cell ")}
-    if not any(content.startswith("0 ") for content in cells):
+    if all(Cell.read(content).is_safe for place, content in contents_in(states) if place.kind == "cell"):
         rules.append(".warning { display: none; }")
     sizes = {f"{kind}-room": f"{width:.2f}rem" for kind, width in widths.items()}
     sizes |= {"value-size": f"{value_size(states)}rem"}
     return "\n".join([f":root {{ {variables(sizes)} }}", *rules])
 
 
+def contents_in(states: list[State]) -> set[tuple[Place, str]]:
+    """The places that are there, each with what is there at one of these moments."""
+    contents = {content for state in states for content in state.places.items()}
+    return {(Place.read(name), content) for name, content in contents}
+
+
 def values_of(states: list[State]) -> set[str]:
     """The values that are in a cell or in a slot."""
-    contents = {content for it in states for name, content in it.places.items() if name.split(" ")[0] in VALUED}
+    contents = {content for place, content in contents_in(states) if place.kind in VALUED}
     return {content.split(" ")[-1] for content in contents} - {"none", "empty"}
 
 
@@ -138,10 +144,11 @@ def value_size(states: list[State]) -> float:
 
 def widths_of(states: list[State]) -> dict[str, float]:
     """How wide the longest text of each kind is."""
-    contents = {(name.split(" ")[0], content) for it in states for name, content in it.places.items()}
+    there = contents_in(states)
+    contents = {(place.kind, content) for place, content in there}
     numbers = {content.split(" ")[-1] for kind, content in contents if kind in ("head", "tail", "ahead", "atail")}
-    cells = {name.split(" ")[-1] for it in states for name in it.places if name.startswith("cell ")}
-    indexes = {content.split(" ")[1] for kind, content in contents if kind == "cell"}
+    cells = {place.index for place, _ in there if place.kind == "cell"}
+    indexes = {Cell.read(content).index for kind, content in contents if kind == "cell"}
     size = value_size(states)
     widths = {
         "marker": [width_of(f"head {it} →", 0.9, True) for it in numbers],
@@ -161,7 +168,7 @@ def line_item(it: State, why: str, mark: str) -> str:
     if not it.line:
         words = '<span class="no">0</span><span class="words">before the first line</span>'
         return f'<li class="start"><button type="button" tabindex="-1">{words}</button></li>'
-    kind = ' class="refused"' if it.reply.startswith("refused ") else ""
+    kind = ' class="refused"' if why else ""
     more = f'<p class="why">{escape(why)}</p>' if why else ""
     words = f'<span class="no">{it.line}</span>{mark}<code>{escape(it.text)}</code><code>{escape(it.reply)}</code>'
     return f'<li{kind}><button type="button" tabindex="-1">{words}</button>{more}</li>'
@@ -186,7 +193,7 @@ def column(kinds: list[str], label: str = "", slot: str = "") -> str:
     return f'<div class="{name}"{data}>{place("above")}{box}{place("below")}</div>'
 
 
-def order_of(states: list[State]) -> list[str]:
+def segments_in_order(states: list[State]) -> list[str]:
     """The segments of all moments as one order, with `gap` where some are left out: that of the links at
     the end, and those that are never linked last. One whose place in the order changes is there twice."""
     order: list[str] = []
@@ -215,10 +222,10 @@ def segment(name: str, states: list[State], ring: int) -> str:
 def slots_of(states: list[State]) -> list[int]:
     """The slots of the array that are shown: those that are used, and to which a counter leads; none
     where no one uses it."""
-    names = {name for it in states for name in it.places if name.startswith("acell ")}
-    counters = {int(it.places[name]) for it in states for name in ("ahead", "atail")}
-    used = {int(name.split(" ")[1]) for name in names} | (counters if names or counters != {0} else set())
-    aims = {place for it in states for place in touched_by(it)} & {"ahead", "atail"}
+    slots = {place.index or 0 for place, _ in contents_in(states) if place.kind == "acell"}
+    counters = {int(state.places[name]) for state in states for name in ("ahead", "atail")}
+    used = slots | (counters if slots or counters != {0} else set())
+    aims = {place.kind for state in states for place in touched_by(state)} & {"ahead", "atail"}
     used |= counters if aims else set()
     return [*range(min(used), max(used) + 1)] if used else []
 
@@ -226,7 +233,7 @@ def slots_of(states: list[State]) -> list[int]:
 def queue(states: list[State], ring: int) -> str:
     """Room for all that the queue is in these moments: each segment has its own."""
     gap = '<div class="left-out" data-name="gap"></div>'
-    segments = [gap if name == "gap" else segment(name, states, ring) for name in order_of(states)]
+    segments = [gap if name == "gap" else segment(name, states, ring) for name in segments_in_order(states)]
     parts = [f'<div class="segments">{"".join(segments)}</div>']
     slots = slots_of(states)
     if slots:

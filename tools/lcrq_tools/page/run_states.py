@@ -11,11 +11,12 @@ import copy
 import itertools
 from dataclasses import dataclass, field
 
-from lcrq_tools.draw.figure import Session, segment_of
-from lcrq_tools.draw.moment import SLOTS, in_order, names_of
+from lcrq_tools.draw.figure import Session, in_order
+from lcrq_tools.draw.moment import SLOTS, names_of, next_of
 from lcrq_tools.draw.viewer_marks import viewer_name
 from lcrq_tools.faults import Fault
 from lcrq_tools.program import run
+from lcrq_tools.records import Actor, Cell, Counts, Place, Refusal, Step, content_of
 
 MOST_KEPT = 6  # linked segments that a queue may have before some of them are left out
 
@@ -29,14 +30,14 @@ class State:
     reply: str
     live: int
     undone: int
-    records: list[str] = field(default_factory=list)  # of the live steps, and then of the undone ones
-    actors: dict[int, str] = field(default_factory=dict)  # the reply about each actor
+    steps: list[Step] = field(default_factory=list)  # the live ones, and then the undone ones
+    actors: dict[int, Actor] = field(default_factory=dict)
     places: dict[str, str] = field(default_factory=dict)  # the content of each place that is there
-    tried: dict[int, tuple[str, str]] = field(default_factory=dict)  # the reply to a next step, and its record
+    tried: dict[int, Step | Refusal] = field(default_factory=dict)  # each actor's next step, or why there is none
     chain: list[str] = field(default_factory=list)  # linked segments, in the order of their links
     linked: list[str | int] = field(default_factory=list)  # those that are drawn; a number for so many left out
     apart: list[str] = field(default_factory=list)
-    rows: list[int] = field(default_factory=list)  # of the steps of `records`
+    rows: list[int] = field(default_factory=list)  # of the steps
     viewer: int = 0  # who asked the line, where the run is of viewers
 
     def asked(self) -> str:
@@ -45,26 +46,18 @@ class State:
 
     def busy(self) -> list[int]:
         """The actors that are in a call."""
-        return [actor for actor, reply in self.actors.items() if not reply.startswith("actor Idle ")]
+        return [number for number, actor in self.actors.items() if not actor.is_idle()]
 
     def content(self, lane: str) -> str:
         """What is on a lane; nothing if it isn't there."""
-        kind, _, rest = lane.partition(" ")
-        if kind not in ("value", "index"):
+        place = Place.read(lane)
+        if place.kind not in ("value", "index"):
             return self.places.get(lane, "")
-        safe, _, others = self.places.get(f"cell {rest}", "").partition(" ")
-        index, _, value = others.partition(" ")
-        return value if kind == "value" else f"{safe} {index}".strip()
-
-
-def event_of(record: str) -> str:
-    """The line that makes a step, by its record."""
-    return record.split("; ")[1]
-
-
-def without_number(record: str) -> str:
-    """A step's record without its number, which others may change."""
-    return record.partition("; ")[2]
+        content = self.places.get(str(place.half("cell")))
+        if not content:
+            return ""
+        cell = Cell.read(content)
+        return cell.value_half() if place.kind == "value" else cell.index_half()
 
 
 # ---- What is asked --------------------------------------------------------------------------------
@@ -108,24 +101,24 @@ def lengths_of(asked: Asked) -> list[State]:
     count = len(asked.lines) - asked.first + 1
     states = []
     for at, replies in enumerate(asked.ask([["len"]] * count), asked.first):
-        _, live, undone = replies[-1].split(" ")
+        counts = Counts.read(replies[-1])
         text = asked.lines[at - 1].decode("ascii", "replace") if at else ""
         reply = replies[0] if at > asked.first else ""
         viewer = asked.session.viewers[at - 1] if at and asked.session.viewers else 0
-        states.append(State(at, text, reply, int(live), int(undone), viewer=viewer))
+        states.append(State(at, text, reply, counts.live, counts.undone, viewer=viewer))
     return states
 
 
 def ask_steps(asked: Asked, states: list[State]) -> None:
-    """Asks for the steps. An undone one has a record as long as it is made again."""
+    """Asks for the steps. An undone one is replied as long as it is made again."""
     questions = []
-    for it in states:
-        ends = [f"forward {it.undone}"] if it.undone else []
-        steps = [f"step {number}" for number in range(1, it.live + it.undone + 1)]
+    for state in states:
+        ends = [f"forward {state.undone}"] if state.undone else []
+        steps = [f"step {number}" for number in range(1, state.live + state.undone + 1)]
         questions.append([*ends, *steps, *(line.replace("forward", "back") for line in ends)])
-    for it, replies in zip(states, asked.ask(questions)):
-        it.records = [reply for reply in replies if reply.startswith("step ") and "; " in reply]
-        it.records = it.records[-(it.live + it.undone):] if it.live + it.undone else []
+    for state, replies in zip(states, asked.ask(questions)):
+        steps = [reply for reply in replies if reply.startswith("step ") and "; " in reply]
+        state.steps = [Step.read(reply) for reply in steps[len(steps) - state.live - state.undone:]]
 
 
 def ask_actors(asked: Asked, states: list[State], names: list[str]) -> None:
@@ -133,55 +126,61 @@ def ask_actors(asked: Asked, states: list[State], names: list[str]) -> None:
     actors = range(1, asked.session.actors + 1)
     places = ["qhead", "qtail", *(f"next {name}" for name in names)]
     lines = [*(f"actor {actor}" for actor in actors), *(f"show {place}" for place in places)]
-    for it, replies in zip(states, asked.ask([lines] * len(states))):
+    for state, replies in zip(states, asked.ask([lines] * len(states))):
         replies = replies[-len(lines):]
-        it.actors = dict(zip(actors, replies))
-        shown = dict(zip(places, replies[len(it.actors):]))
-        nexts = {name: shown[f"next {name}"].removeprefix("is ") for name in names}
-        nexts = {name: content for name, content in nexts.items() if not content.startswith("refused ")}
-        ends = [shown[end].removeprefix("is ") for end in ("qhead", "qtail")]
-        it.chain, it.apart = in_order([*nexts], nexts, ends)
+        state.actors = dict(zip(actors, map(Actor.read, replies)))
+        shown = dict(zip(places, map(content_of, replies[len(actors):])))
+        nexts = {name: shown[f"next {name}"] for name in names if shown[f"next {name}"]}
+        state.chain, state.apart = in_order(nexts, [shown["qhead"], shown["qtail"]])
 
 
-def moves_between(before: list[str], after: list[str]) -> list[str]:
-    """The lines that lead from one list of live steps to another one, by their records."""
-    pairs = zip(before, after)
-    common = sum(1 for _ in itertools.takewhile(lambda pair: without_number(pair[0]) == without_number(pair[1]), pairs))
+def common_of(before: list[Step], after: list[Step]) -> int:
+    """With how many equal steps two lists begin."""
+    return sum(1 for _ in itertools.takewhile(lambda pair: pair[0] == pair[1], zip(before, after)))
+
+
+def moves_between(before: list[Step], after: list[Step]) -> list[str]:
+    """The lines that lead from one list of live steps to another one."""
+    common = common_of(before, after)
     back = [f"back {len(before) - common}"] if len(before) > common else []
-    return [*back, *map(event_of, after[common:])]
+    return [*back, *(str(step.event) for step in after[common:])]
 
 
 def ask_trials(asked: Asked, states: list[State]) -> None:
     """Asks what each actor's next step would be."""
     given: list[bytes] = []
     lengths: list[tuple[int, int]] = []
-    before = states[0].records[: states[0].live]
-    for it in states:
-        after, number = it.records[: it.live], it.live + 1
+    before = states[0].steps[: states[0].live]
+    for state in states:
+        after, number = state.steps[: state.live], state.live + 1
         moves = moves_between(before, after)
-        trials = [line for actor in it.busy() for line in (f"go {actor}", f"step {number}", f"undo {number}")]
+        trials = [line for actor in state.busy() for line in (f"go {actor}", f"step {number}", f"undo {number}")]
         given += [line.encode("ascii") for line in (*moves, *trials)]
         lengths.append((len(moves), len(trials)))
         before = after
     replies = iter(asked.replies_to([*asked.lines[: asked.first], *given])[asked.first:])
-    for it, (moved, tried) in zip(states, lengths):
+    for state, (moved, tried) in zip(states, lengths):
         answers = [*itertools.islice(replies, moved + tried)][moved:]
-        it.tried = dict(zip(it.busy(), zip(answers[::3], answers[1::3])))
+        state.tried = dict(zip(state.busy(), map(next_of, answers[::3], answers[1::3])))
 
 
-def touched_by(it: State) -> list[str]:
+def touched_by(state: State) -> list[Place]:
     """The place that each actor's next step would touch."""
-    return [record.split("; ")[2] for reply, record in it.tried.values() if reply.startswith("ok ")]
+    return [step.place for step in state.tried.values() if isinstance(step, Step)]
+
+
+def touched_in(states: list[State]) -> set[Place]:
+    """The places that a step touches, or a next step would touch."""
+    return {place for state in states for place in (*touched_by(state), *(step.place for step in state.steps))}
 
 
 def kept_names(states: list[State]) -> set[str]:
     """The segments that are drawn: all of a short list, and of a long one its ends and those that a
     step touches."""
-    if all(len(it.chain) <= MOST_KEPT for it in states):
-        return {name for it in states for name in (*it.chain, *it.apart)}
-    places = {place for it in states for place in (*touched_by(it), *(record.split("; ")[2] for record in it.records))}
-    ends = {name for it in states for name in (*it.chain[:1], *it.chain[-1:], *it.apart)}
-    return {*map(segment_of, places), *ends} - {""}
+    if all(len(state.chain) <= MOST_KEPT for state in states):
+        return {name for state in states for name in (*state.chain, *state.apart)}
+    ends = {name for state in states for name in (*state.chain[:1], *state.chain[-1:], *state.apart)}
+    return {*(place.segment for place in touched_in(states)), *ends} - {""}
 
 
 def counted(linked: list[str], kept: set[str]) -> list[str | int]:
@@ -201,8 +200,8 @@ def used_slots(asked: Asked, states: list[State]) -> list[str]:
     slots = [f"acell {slot}" for slot in range(SLOTS)]
     replies = asked.at(asked.first).ask([f"show {slot}" for slot in slots])
     used = {slot for slot, reply in zip(slots, replies) if reply != "is empty"}
-    used |= {place for it in states for place in (*touched_by(it), *(record.split("; ")[2] for record in it.records))}
-    numbers = [at for at, slot in enumerate(slots) if slot in used]
+    used |= {str(place) for place in touched_in(states)}
+    numbers = [number for number, slot in enumerate(slots) if slot in used]
     return slots[numbers[0]: numbers[-1] + 1] if numbers else []
 
 
@@ -212,24 +211,24 @@ def ask_places(asked: Asked, states: list[State], names: list[str]) -> None:
     places += [f"{kind} {name}" for name in names for kind in ("head", "tail", "next")]
     places += [f"cell {name} {cell}" for name in names for cell in range(asked.session.ring)]
     lines = [f"show {place}" for place in places]
-    for it, replies in zip(states, asked.ask([lines] * len(states))):
-        there = zip(places, replies[-len(lines):])
-        it.places = {place: reply.removeprefix("is ") for place, reply in there if reply.startswith("is ")}
+    for state, replies in zip(states, asked.ask([lines] * len(states))):
+        contents = zip(places, map(content_of, replies[-len(lines):]))
+        state.places = {place: content for place, content in contents if content}
 
 
 def states_of(asked: Asked) -> list[State]:
     """The moments of a run."""
     states = lengths_of(asked)
     ask_steps(asked, states)
-    places = {record.split("; ")[2] for it in states for record in it.records}
+    made = {step.place.segment for state in states for step in state.steps}
     makers = range(1, asked.session.actors + 1)
-    names = sorted({*names_of(asked.at(asked.first), makers), *map(segment_of, places)} - {""}, key=number_of)
+    names = sorted({*names_of(asked.at(asked.first), makers), *made} - {""}, key=number_of)
     ask_actors(asked, states, names)
     ask_trials(asked, states)
     kept = kept_names(states)
     ask_places(asked, states, sorted(kept, key=number_of))
-    for it in states:
-        it.linked = counted(it.chain, kept)
+    for state in states:
+        state.linked = counted(state.chain, kept)
     return states
 
 

@@ -14,22 +14,17 @@ from pathlib import Path
 
 from lcrq_tools import model
 from lcrq_tools.faults import Fault
+from lcrq_tools.records import CALLS, NOTHING, PLACES, WORDS
 
 MOST_ACTORS = 16
 MOST_NUMBER = 2**64 - 1
 
-# How many words come after the kind of a place, and which of them names a segment.
-PLACES = {"qhead": 0, "qtail": 0, "ahead": 0, "atail": 0, "acell": 1}
-PLACES |= dict.fromkeys(("head", "tail", "next", "whole"), 1) | dict.fromkeys(("cell", "value", "index"), 2)
 ACCESSES = ("read", "wrote", "wrote index")
-CALLS = {"enq": 1, "deq": 0, "aenq": 1, "adeq": 0}  # how many words come after each
-WORDS = ("crq", "new", "next", "t", "h", "closed", "val", "safe", "idx", "pass")
 CHOICES = ("yes", "no")
-UNKNOWN = "-"
 
 SEGMENT = re.compile(r"[0-9]+\.[0-9]+")
 NUMBER = re.compile(r"[0-9]+|0x[0-9a-fA-F]+")
-NOTHING = ("none", "(nil)", "0x0", "NULL", "null")  # how C and others write that a name or a value is absent
+ABSENT = ("none", "(nil)", "0x0", "NULL", "null")  # how C and others write that a name or a value is absent
 
 
 class Unreadable(Fault, ValueError):
@@ -97,7 +92,7 @@ def read_choice(record: Record, words: list[str]) -> None:
 def read_tail(record: Record, parts: list[list[str]]) -> None:
     """Puts the parts that may follow a step into its record: its reply and its words."""
     for part in parts:
-        if part in ([], [UNKNOWN]):
+        if part in ([], [NOTHING]):
             continue
         if part[0] not in WORDS:
             record.reply = tuple(part)
@@ -110,12 +105,12 @@ def read_tail(record: Record, parts: list[list[str]]) -> None:
 def read_place(record: Record, words: list[str], parts: list[list[str]]) -> None:
     """Puts a step by its place into its record: the place, the access and the answer."""
     record.place = tuple(words)
-    if parts and (" ".join(parts[0]) in ACCESSES or parts[0] == [UNKNOWN]):
+    if parts and (" ".join(parts[0]) in ACCESSES or parts[0] == [NOTHING]):
         access = " ".join(parts.pop(0))
-        record.access = "" if access == UNKNOWN else access
+        record.access = "" if access == NOTHING else access
     if parts:
         answer = parts.pop(0)
-        record.answer = () if answer == [UNKNOWN] else tuple(answer)
+        record.answer = () if answer == [NOTHING] else tuple(answer)
     read_tail(record, parts)
 
 
@@ -123,7 +118,7 @@ def read_step(record: Record, words: list[str], parts: list[list[str]], labels: 
     """Puts a step, by its label or its place, into its record."""
     if words[0] in labels:
         record.label, words = words[0], words[1:]
-    elif words[0] == UNKNOWN:
+    elif words[0] == NOTHING:
         words = words[1:]
     elif words[0] == "starve":
         return read_choice(record, words[1:])
@@ -131,7 +126,7 @@ def read_step(record: Record, words: list[str], parts: list[list[str]], labels: 
         return read_place(record, words, parts)
     if record.label and words and words[0] in CHOICES:
         return read_choice(record, words)
-    record.answer = () if words == [UNKNOWN] else tuple(words)
+    record.answer = () if words == [NOTHING] else tuple(words)
     return read_tail(record, parts)
 
 
@@ -143,7 +138,7 @@ def record_of(where: str, text: str, labels: set[str]) -> Record:
     record, words = Record(int(first[0]), first[1], where, text), first[2:]
     if words[0] in CALLS:
         read_call(record, words)
-    elif words[0] in labels or words[0] in (UNKNOWN, "starve") or is_place(words):
+    elif words[0] in labels or words[0] in (NOTHING, "starve") or is_place(words):
         read_step(record, words, parts, labels)
     elif words[0] == "value" and len(words) == 2 and number_of(words[1]) or len(words) == 1 and words[0].islower():
         record.kind, record.reply = "reply", tuple(words)
@@ -234,7 +229,7 @@ class Names:
     def is_segment(self, name: str, segment: str) -> bool:
         """Whether the port calls this segment so."""
         known = self.segment_of(name)
-        if not known and segment not in self.names and name not in NOTHING:
+        if not known and segment not in self.names and name not in ABSENT:
             self.learn(name, segment)
             return True
         return known == segment
@@ -250,9 +245,9 @@ class Names:
         if SEGMENT.fullmatch(word):
             return self.is_segment(port, word)
         if word == "none":
-            return port in NOTHING
+            return port in ABSENT
         return word.isdecimal() and number_of(port) == word
 
     def meant(self, port: Sequence[str]) -> str:
         """Words of a log in the program's words, as far as they are known."""
-        return " ".join(self.segments.get(it) or ("none" if it in NOTHING else it) for it in port)
+        return " ".join(self.segments.get(word) or ("none" if word in ABSENT else word) for word in port)

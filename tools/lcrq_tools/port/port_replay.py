@@ -9,6 +9,7 @@ from collections.abc import Sequence
 from pathlib import Path
 
 from lcrq_tools.program import PIPE_BYTES, Broken, Driven
+from lcrq_tools.records import Actor, Counts, Step, content_of
 from lcrq_tools.start import freeze
 
 LINES = 300  # that are written before their replies are read: these fit into a pipe
@@ -42,7 +43,7 @@ class Known:
             while has_more:
                 names = [f"{maker}.{number}" for number in range(first, first + SEGMENTS)]
                 there = [reply == "is exists" for reply in self.fetch([f"show whole {name}" for name in names])]
-                self.fetch([line for name, it in zip(names, there) if it for line in segment_lines(name, ring)])
+                self.fetch([line for name, has in zip(names, there) if has for line in segment_lines(name, ring)])
                 first, has_more = first + SEGMENTS, there[-1]
 
 
@@ -58,24 +59,25 @@ class Replay:
     def __init__(self, program: str, folder: Path, options: Sequence[str]):
         self.program, self.folder = program, folder
         self.driven: Driven | None = None  # none before it is opened
-        self.entries: list[tuple[str, str]] = []  # of each step from 1 on: its control point, and its entry
+        self.steps: list[tuple[str, Step]] = []  # from 1 on, each with its control point
         self.open(options)
 
     def open(self, options: Sequence[str]) -> None:
         """Starts the program with these words, in place of the run before it."""
         self.close()
         self.options = list(options)
-        self.before = len(self.entries)
+        self.before = len(self.steps)
         self.lines: list[str] = []
         self.driven = Driven([self.program, *options])
-        self.first = int(self.ask(["len"])[0].split(" ")[1])  # live steps that a trace brings along
+        self.first = Counts.read(self.ask(["len"])[0]).live  # live steps that a trace brings along
         cells = self.ask([f"show index 0.0 {cell}" for cell in range(9)])
-        self.ring = sum(reply.startswith("is ") for reply in cells)
-        self.states = [it for it in self.ask([f"actor {number}" for number in range(1, 17)]) if it.startswith("actor ")]
+        self.ring = sum(map(bool, map(content_of, cells)))
+        actors = self.ask([f"actor {number}" for number in range(1, 17)])
+        self.states = [Actor.read(reply) for reply in actors if reply.startswith("actor ")]
 
     def open_start(self, start: str) -> None:
         """Goes on over a start."""
-        file = self.folder / f"{len(self.entries)}.trace"
+        file = self.folder / f"{len(self.steps)}.trace"
         file.write_text(start, encoding="ascii")
         self.open(["load", "--", str(file)])
 
@@ -118,17 +120,17 @@ class Replay:
             missing -= pieces[-1].count(b"\n")
         return b"".join(pieces).decode("ascii").splitlines()
 
-    def keep(self, line: str, point: str, entry: str, state: str) -> None:
-        """Notes a step that was made: its line, control point and entry, and its actor's words after it."""
+    def keep(self, line: str, point: str, step: Step, state: Actor) -> None:
+        """Notes a step that was made, by its line and its control point, and its actor after it."""
         self.lines.append(line)
-        self.entries.append((point, entry))
-        self.states[int(line.split(" ")[1]) - 1] = state
+        self.steps.append((point, step))
+        self.states[step.event.actor - 1] = state
 
-    def drop(self, state: str) -> None:
-        """Takes the last step back; its actor's words before it are these."""
+    def drop(self, state: Actor) -> None:
+        """Takes the last step back, before which its actor was so."""
         self.ask(["back 1"])
-        self.states[int(self.lines.pop().split(" ")[1]) - 1] = state
-        self.entries.pop()
+        self.lines.pop()
+        self.states[self.steps.pop()[1].event.actor - 1] = state
 
     def start(self) -> str:
         """The world as the text of a start."""

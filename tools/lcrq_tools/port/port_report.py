@@ -9,10 +9,10 @@ from pathlib import Path
 
 from lcrq_tools import model
 from lcrq_tools.draw import picture
-from lcrq_tools.draw.figure import segment_of
 from lcrq_tools.faults import FAULTS, text_of
 from lcrq_tools.page import page
-from lcrq_tools.port.port_compare import NEEDS_CHOICE, Comparison, Difference, point_of, words_of
+from lcrq_tools.port.port_compare import NEEDS_CHOICE, Comparison, Difference
+from lcrq_tools.records import Cell, Place, content_of
 
 ROWS = 25  # steps of the picture
 PAGE_LINES = 100  # of the script, on the page
@@ -23,23 +23,26 @@ ENDS = {"qhead": "QHead", "qtail": "QTail", "ahead": "ArrHead", "atail": "ArrTai
 # ---- Words ---------------------------------------------------------------------------------------
 
 
-def phrase_of(place: str, content: str) -> str:
+def phrase_of(place: Place, content: str) -> str:
     """What is at a place, in a sentence."""
-    kind, _, rest = place.partition(" ")
-    segment, _, cell = rest.partition(" ")
-    words = content.split(" ")
-    match kind:
+    match place.kind:
         case "index" | "cell":
-            value = f" and {'no value' if words[2] == 'none' else f'the value {words[2]}'}" if words[2:] else ""
-            safe = "safe" if words[0] == "1" else "unsafe"
-            return f"cell {cell} of {segment} is {safe} with index {words[1]}{value}"
+            cell = Cell.read(content if place.kind == "cell" else f"{content} none")
+            value = f" and {value_phrase(cell.value_half())}" if place.kind == "cell" else ""
+            safe = "safe" if cell.is_safe else "unsafe"
+            return f"cell {place.index} of {place.segment} is {safe} with index {cell.index}{value}"
         case "value":
-            return f"cell {cell} of {segment} has {'no value' if content == 'none' else f'the value {content}'}"
+            return f"cell {place.index} of {place.segment} has {value_phrase(content)}"
         case "head" | "tail" | "next":
-            return f"{kind.capitalize()} of {segment} is {content}"
+            return f"{place.kind.capitalize()} of {place.segment} is {content}"
         case "acell":
-            return f"slot {rest} of the array is {content}"
-    return f"{ENDS.get(place, place)} is {content}"
+            return f"slot {place.index} of the array is {content}"
+    return f"{ENDS.get(place.kind, str(place))} is {content}"
+
+
+def value_phrase(value: str) -> str:
+    """A value, or that there is none, in a sentence."""
+    return "no value" if value == "none" else f"the value {value}"
 
 
 def said_of(found: Difference) -> str:
@@ -55,7 +58,7 @@ def said_of(found: Difference) -> str:
         case "call":
             return f"the port begins the call {port}, the model is {where} of another one"
         case "reply" if found.record.kind == "reply" and not ours:
-            where = "in no call" if point_of(found.state) == "Idle" else f"at {point_of(found.state)}"
+            where = "in no call" if found.state.is_idle() else f"at {found.state.point}"
             return f"the port's call replied {port} after {at}, the model is {where}"
         case "reply":
             return f"at {at} the port replied {port}, the model {ours or 'goes on'}"
@@ -76,50 +79,43 @@ class About:
     def __init__(self, comparison: Comparison, found: Difference):
         self.replay, self.found = comparison.replay, found
         last = comparison.steps_of.get(found.record.actor, 0)
-        self.last = last if last <= len(self.replay.entries) else 0
-        entries = self.replay.entries
-        self.last_point, self.last_entry = entries[self.last - 1] if self.last else ("", "")
+        self.last = last if last <= len(self.replay.steps) else 0
+        self.last_point, self.last_step = self.replay.steps[self.last - 1] if self.last else ("", None)
         page = model.PAGE.read_text(encoding="utf-8")
         self.lines = {label: text for column in model.lines_of(page).values() for label, text in column.items()}
 
-    def places(self) -> list[str]:
+    def places(self) -> list[Place]:
         """The places in question: that of the actor's last step, and that of the model's next."""
-        found = [self.last_entry.split("; ")[0], *self.found.entry[:1]]
-        return [place for place in dict.fromkeys(found) if place not in ("", "-")]
-
-    def show(self, place: str) -> str:
-        """What is at a place before the step; nothing if there is no such place."""
-        reply = self.replay.ask([f"show {place}"])[0]
-        return reply.removeprefix("is ") if reply.startswith("is ") else ""
+        found = [step.place for step in (self.last_step, self.found.made) if step]
+        return [place for place in dict.fromkeys(found) if place]
 
     def facts(self) -> Iterator[str]:
         """What the actor saw last, what is at the place of the model's step, and the position."""
         if self.found.record.kind == "reply":
             return
-        place, access, answer = ["-", "", "", *self.last_entry.split("; ")[:3]][-3:]
-        if self.found.kind == "line" and access == "read" and answer not in ("won", "lost"):
-            yield phrase_of(place, answer)
-        for place in self.found.entry[:1]:
-            content = self.show(place)
+        last, made, state = self.last_step, self.found.made, self.found.state
+        if self.found.kind == "line" and last and last.access == "read" and last.answer not in ("won", "lost"):
+            yield phrase_of(last.place, last.answer)
+        if made:
+            content = content_of(self.replay.ask([f"show {made.place}"])[0])
             if content and content != "exists":
-                yield phrase_of(place, content)
-        words = words_of(self.found.state)
+                yield phrase_of(made.place, content)
         if self.found.point != "Idle":
-            yield f"position {words['t' if self.found.state.split(' ')[2].endswith('enq') else 'h']}"
+            yield f"position {state.words['t' if state.call_word().endswith('enq') else 'h']}"
 
     def headline(self) -> str:
         """The difference in one line."""
         facts = list(dict.fromkeys(self.facts()))
-        told = ", ".join(it for it in facts if not any(other != it and other.startswith(it) for other in facts))
-        return f"step {self.found.step}: {said_of(self.found)}{f': {told}' if told else ''}"
+        known = [fact for fact in facts if not any(other != fact and other.startswith(fact) for other in facts)]
+        more = f": {', '.join(known)}" if known else ""
+        return f"step {self.found.step}: {said_of(self.found)}{more}"
 
     def step_text(self, number: int) -> str:
         """A step by its number in the log, its control point, its line and what it did."""
-        point, entry = self.replay.entries[number - 1]
-        place, access, answer, reply = entry.split("; ")
+        point, step = self.replay.steps[number - 1]
         first = number - self.replay.before - 1
         by = self.replay.lines[first] if first >= 0 else "a step before the start"
-        did = f"{place}; {access}; {answer}" + ("" if reply == "-" else f"; {reply}")
+        did = step.did() if step.reply else step.did().removesuffix("; -")
         return f"step {number}, `{by}` at {point}: {did}"
 
     def code(self, label: str) -> Iterator[str]:
@@ -127,18 +123,18 @@ class About:
         for at, text in enumerate(self.lines.get(label, [])):
             yield f"         {label if not at else '':5}{text}"
 
-    def touched(self, place: str) -> Iterator[str]:
+    def touched(self, place: Place) -> Iterator[str]:
         """Who wrote a place last, and who touched it since."""
         word, _, number = self.replay.ask([f"writer {place}"])[0].partition(" ")
         own = int(number) - self.replay.first if word == "writer" and number.isdecimal() else 0
         writer = self.replay.before + own if own > 0 else 0
         yield f"{place} was written by {self.step_text(writer) if writer else 'no step of this run'}"
-        entries = self.replay.entries
-        later = range((writer or self.replay.before) + 1, len(entries) + 1)
-        since = [at for at in later if overlap(entries[at - 1][1], place)]
+        steps = self.replay.steps
+        later = range((writer or self.replay.before) + 1, len(steps) + 1)
+        since = [number for number in later if steps[number - 1][1].place.overlaps(place)]
         if since:
             more = f"{len(since) - TOUCHES} more, then " if len(since) > TOUCHES else ""
-            yield f"  and touched since by {more}" + "; ".join(self.step_text(at) for at in since[-TOUCHES:])
+            yield f"  and touched since by {more}" + "; ".join(map(self.step_text, since[-TOUCHES:]))
 
     def text(self) -> Iterator[str]:
         """All lines that are said of the difference."""
@@ -148,8 +144,8 @@ class About:
         if self.last:
             yield f"  before {self.step_text(self.last)}"
             yield from self.code(self.last_point)
-        if found.entry:
-            yield f"  model  at {found.point}: {'; '.join(found.entry)}"
+        if found.made:
+            yield f"  model  at {found.point}: {found.made.did()}"
         yield from self.code(found.point) if found.point != self.last_point else ()
         yield f"  words  {found.state}"
         for place in self.places():
@@ -159,7 +155,7 @@ class About:
 
     def script(self) -> list[str]:
         """The lines to there, with that of the model's step where it can make one."""
-        made = [self.found.record.line()] if self.found.entry else []
+        made = [self.found.record.line()] if self.found.made else []
         return [*self.replay.lines, *made][: self.found.step - self.replay.before]
 
     def start(self) -> str:
@@ -205,15 +201,16 @@ class About:
 
     def chosen_rows(self, count: int) -> list[str]:
         """The options for the last steps at the places in question and of the actor."""
-        actor, entries = self.found.record.actor, self.replay.entries[self.replay.before :]
+        actor, places = self.found.record.actor, self.places()
+        steps = self.replay.steps[self.replay.before :]
         chosen = [
-            at
-            for at, (line, entry) in enumerate(zip(self.replay.lines, entries), 1)
-            if line.split(" ")[1] == str(actor) or any(overlap(entry[1], place) for place in self.places())
+            number
+            for number, (_, step) in enumerate(steps, 1)
+            if step.event.actor == actor or any(map(step.place.overlaps, places))
         ]
         first = self.replay.first + (chosen[-ROWS:] or [1])[0]
-        places = ["--places", ",".join(self.places())] if self.places() else []
-        return ["--from", str(first), "--to", str(max(1, count)), "--actor", str(actor), *places]
+        named = ["--places", ",".join(map(str, places))] if places else []
+        return ["--from", str(first), "--to", str(max(1, count)), "--actor", str(actor), *named]
 
     def drawn(self, tool: Tool, options: list[str], parts: Iterable[list[str]], output: Path) -> str:
         """Draws the run by a tool, the first of these parts that it can draw; returns what to say of it."""
@@ -225,13 +222,3 @@ class About:
             except FAULTS as fault:
                 said = text_of(fault)
         return f"no {output.name}: {said}"
-
-
-def overlap(entry: str, place: str) -> bool:
-    """Whether a step with this entry touched one of the places that a place names."""
-    touched = entry.partition("; ")[0]
-    if "-" == touched:
-        return False
-    if "whole" in (touched.split(" ")[0], place.split(" ")[0]):
-        return segment_of(touched) == segment_of(place)
-    return bool(set(picture.lanes_of(touched, ())) & set(picture.lanes_of(place, ())))

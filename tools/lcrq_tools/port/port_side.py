@@ -14,7 +14,9 @@ from dataclasses import dataclass
 from lcrq_tools import program
 from lcrq_tools.start import freeze
 from lcrq_tools.start.flaws import IDLE, Actor, Segment, Start, Trace, with_words
-from lcrq_tools.port.port_compare import Comparison, Difference, words_of
+from lcrq_tools.port.port_compare import Comparison, Difference
+from lcrq_tools.records import Actor as ShownActor
+from lcrq_tools.records import Cell, Place, Step, Tail, content_of, is_made
 
 MOST_WORDS = 2  # that are changed beside the control point
 
@@ -25,16 +27,16 @@ class Change:
 
     said: str
     start: Trace
-    restored: tuple[str, str] | None = None  # a place, and its content
+    restored: tuple[Place, str] | None = None  # a place, and its content
 
 
 # ---- Changes -------------------------------------------------------------------------------------
 
 
-def put(start: Start, place: str, content: str) -> None:
+def put(start: Start, place: Place, content: str) -> None:
     """Changes what is at a place."""
-    kind, *rest = place.split(" ")
-    match kind:
+    index = place.index or 0
+    match place.kind:
         case "qhead":
             start["qhead"] = freeze.name_of(content)
         case "qtail":
@@ -44,11 +46,11 @@ def put(start: Start, place: str, content: str) -> None:
         case "atail":
             start["array"]["tail"] = int(content)
         case "acell":
-            others = [slot for slot in start["array"]["cells"] if slot[0] != int(rest[0])]
-            filled = [] if content == "empty" else [freeze.slot_of(int(rest[0]), content)]
+            others = [slot for slot in start["array"]["cells"] if slot[0] != index]
+            filled = [] if content == "empty" else [freeze.slot_of(index, content)]
             start["array"]["cells"] = sorted(others + filled)
         case _:
-            put_into(segment_at(start, rest[0]), kind, [*map(int, rest[1:])], content.split(" "))
+            put_into(segment_at(start, place.segment), place.kind, index, content.split(" "))
 
 
 def segment_at(start: Start, name: str) -> Segment:
@@ -57,7 +59,7 @@ def segment_at(start: Start, name: str) -> Segment:
     return start["segments"][maker][number]
 
 
-def put_into(segment: Segment, kind: str, cell: list[int], words: list[str]) -> None:
+def put_into(segment: Segment, kind: str, cell: int, words: list[str]) -> None:
     """Changes what is at a place of a segment."""
     match kind:
         case "head":
@@ -68,11 +70,11 @@ def put_into(segment: Segment, kind: str, cell: list[int], words: list[str]) -> 
         case "next":
             segment["next"] = freeze.or_null(words[0], freeze.name_of)
         case "value":
-            segment["cells"][cell[0]][2] = freeze.value_of(words[0])
+            segment["cells"][cell][2] = freeze.value_of(words[0])
         case "index":
-            segment["cells"][cell[0]][:2] = [freeze.bit_of(words[0]), int(words[1])]
+            segment["cells"][cell][:2] = [freeze.bit_of(words[0]), int(words[1])]
         case "cell":
-            segment["cells"][cell[0]] = freeze.cell_of(" ".join(words))
+            segment["cells"][cell] = freeze.cell_of(" ".join(words))
 
 
 def one_word(actor: Actor) -> list[tuple[str, object]]:
@@ -97,9 +99,8 @@ class Side:
         if self.found.kind == "words":
             return self.take_words()
         for change in self.changes():
-            told = self.tried(change)
-            if told:
-                return self.go_on(change, told)
+            if self.is_taken_by(change):
+                return self.go_on(change)
         return ""
 
     def changes(self) -> Iterator[Change]:
@@ -110,10 +111,10 @@ class Side:
         elif record.label and self.found.kind == "line":
             yield from self.at_point(record.label)
         elif self.found.kind in ("place", "access", "line") and not record.label:
-            for label in sorted({point for point, _ in self.replay.entries if point != "Idle"}):
+            for label in sorted({point for point, _ in self.replay.steps if point != "Idle"}):
                 yield from self.at_point(label, 0)
-        if self.found.entry:
-            yield from self.contents(self.found.entry[0])
+        if self.found.made:
+            yield from self.contents(self.found.made.place)
 
     def with_actor(self, record: Actor, said: str) -> Change:
         """The world with another record of the actor."""
@@ -132,10 +133,10 @@ class Side:
                 changed = with_words(actor, {**dict(words), "pc": label})
                 yield self.with_actor(changed, ", ".join([f"pc {label}", *others]))
 
-    def contents(self, place: str) -> Iterator[Change]:
+    def contents(self, place: Place) -> Iterator[Change]:
         """Other contents of the place of the step: what the port found there, what its
         compare-and-swap expects, and what it does not expect."""
-        before = self.replay.ask([f"show {place}"])[0].removeprefix("is ")
+        before = content_of(self.replay.ask([f"show {place}"])[0])
         for content in self.contents_of(place, before):
             changed = copy.deepcopy(self.world)
             try:
@@ -145,43 +146,42 @@ class Side:
             lost = self.found.port == "lost" or self.found.kind == "access" and self.found.port == "read"
             yield Change(f"{place} is {content}", changed, (place, before) if lost else None)
 
-    def contents_of(self, place: str, before: str) -> Iterator[str]:
+    def contents_of(self, place: Place, before: str) -> Iterator[str]:
         """The contents that are tried at a place."""
-        words, kind = words_of(self.found.state), place.split(" ")[0]
+        words = self.found.state.words
         answer = self.comparison.names.meant(self.found.record.answer)
         if answer and answer not in ("won", "lost"):
             yield answer
         makers = enumerate(self.world["start"]["segments"])
         names = [f"{maker}.{number}" for maker, made in makers for number in range(len(made))]
-        if kind in ("qhead", "qtail", "next"):
+        if place.kind in ("qhead", "qtail", "next"):
             yield from dict.fromkeys([words["crq"], "none", words["next"], words["new"], *names])
-        elif kind == "tail":
-            yield from (f"open {words['t']}", f"closed {before.split(' ')[-1]}")
-        elif kind == "cell":
-            safe, index, value = before.split(" ")
+        elif place.kind == "tail":
+            yield from (f"open {words['t']}", str(Tail(True, Tail.read(before).count)))
+        elif place.kind == "cell":
+            cell = Cell.read(before)
             yield from (f"{words['safe']} {words['idx']} {words['val']}", f"{words['safe']} {words['idx']} none")
-            yield f"{safe} {int(index) + 1} {value}"
+            yield str(Cell(cell.is_safe, cell.index + 1, cell.value))
 
     # ---- Trials
 
-    def tried(self, change: Change) -> list[str]:
-        """What the record's lines are answered over a changed start, where that takes the port's side of
-        this difference; else nothing."""
+    def is_taken_by(self, change: Change) -> bool:
+        """Whether the record's step over a changed start takes the port's side of this difference."""
         record, file = self.found.record, self.replay.folder / "tried.trace"
         file.write_text(json.dumps(change.start), encoding="ascii")
         step = ["step 1"] if record.kind == "step" else []
         lines = [f"actor {self.actor}", record.line(), *step, f"actor {self.actor}"]
         script = "".join(f"{line}\n" for line in lines).encode("ascii")
         ended = program.run([self.replay.program, "load", "--", str(file)], script)
-        told = ended.output.decode("ascii").splitlines()
-        if ended.status or not told[1].startswith("ok "):
-            return []
+        replies = ended.output.decode("ascii").splitlines()
+        if ended.status or not is_made(replies[1]):
+            return False
         if record.kind == "call" or record.label and self.found.kind == "line":
-            return told[1:]
-        found = self.comparison.compare_entry(record, told[2].split("; ")[2:], told[3])
-        return told[1:] if not found or found.kind in ("reply", "words") else []
+            return True
+        found = self.comparison.compare_made(record, Step.read(replies[2]), ShownActor.read(replies[3]))
+        return not found or found.kind in ("reply", "words")
 
-    def go_on(self, change: Change, told: list[str]) -> str:
+    def go_on(self, change: Change) -> str:
         """Goes on over a changed start. What the step only had to find is put back behind it."""
         self.replay.open_start(json.dumps(change.start))
         if change.restored:
@@ -194,9 +194,9 @@ class Side:
     def make_step(self) -> None:
         """Makes the step of the record, as the model makes it."""
         record = self.found.record
-        told = self.replay.ask([record.line(), f"step {self.replay.live() + 1}", f"actor {self.actor}"])
-        point = self.replay.states[self.actor - 1].split(" ", 2)[1]
-        self.comparison.note(record, point, told[1].split("; ")[2:], told[2])
+        _, made, state = self.replay.ask([record.line(), f"step {self.replay.live() + 1}", f"actor {self.actor}"])
+        point = self.replay.states[self.actor - 1].point
+        self.comparison.note(record, point, Step.read(made), ShownActor.read(state))
         self.comparison.at += 1
 
     def take_words(self) -> str:
@@ -215,7 +215,7 @@ class Side:
     def take_reply(self) -> str:
         """Lets the call be over, as the port has it."""
         self.comparison.at += 1
-        if self.found.state.split(" ", 2)[1] == "Idle":
+        if self.found.state.is_idle():
             return "nothing: both calls are over"
         change = self.with_actor(IDLE, "the actor is in no call")
         self.replay.open_start(json.dumps(change.start))

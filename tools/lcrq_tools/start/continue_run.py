@@ -24,6 +24,7 @@ from lcrq_tools import program
 from lcrq_tools.faults import Fault, Parser
 from lcrq_tools.options import add_program
 from lcrq_tools.program import Broken, Driven
+from lcrq_tools.records import Actor, Made, content_of, read_reply
 
 MOST_STEPS = 20_000  # of a continuation
 
@@ -53,26 +54,25 @@ class Continuation:
 
     def values(self) -> Iterator[str]:
         """The values in cells and in the calls of enqueues."""
-        actors = [reply.split(" ") for reply in self.all_of("actor {}", 1)]
+        actors = [Actor.read(reply) for reply in self.all_of("actor {}", 1)]
         self.actors = range(1, len(actors) + 1)
-        yield from (words[3] for words in actors if words[2] == "enq")
+        yield from (actor.call.removeprefix("enq ") for actor in actors if actor.call_word() == "enq")
         for maker in range(len(actors) + 1):
             for number, _ in enumerate(self.all_of(f"show whole {maker}.{{}}")):
                 cells = self.all_of(f"show value {maker}.{number} {{}}")
-                yield from (it.removeprefix("is ") for it in cells if it != "is none")
+                yield from (content_of(cell) for cell in cells if cell != "is none")
 
     def make(self, line: str) -> str:
         """Makes a step; returns what its call replied, `-` where it goes on, or nothing if it is refused."""
-        reply = self.ask(line)
-        if not reply.startswith("ok "):
+        reply = read_reply(self.ask(line))
+        if not isinstance(reply, Made):
             return ""
         self.lines.append(line)
         if len(self.lines) > MOST_STEPS:
             raise Broken(f"no end after {MOST_STEPS} steps")
-        words = reply.split(" ")[2:]
-        if words[:1] == ["value"]:
-            self.taken[words[1]] += 1
-        return " ".join(words) or "-"
+        if reply.ended.startswith("value "):
+            self.taken[reply.ended.removeprefix("value ")] += 1
+        return reply.ended or "-"
 
     def step(self, actor: int) -> str:
         """Lets an actor make its next step; returns what its call replied, or `-`."""
@@ -80,7 +80,7 @@ class Continuation:
 
     def go_on(self) -> None:
         """Goes on until no actor is in a call."""
-        able = [actor for actor in self.actors if not self.ask(f"actor {actor}").startswith("actor Idle ")]
+        able = [actor for actor in self.actors if not Actor.read(self.ask(f"actor {actor}")).is_idle()]
         while able:
             actor = self.chance.choice(able)
             reply = self.step(actor)

@@ -32,6 +32,7 @@ from typing import Protocol, TypeVar, cast
 from lcrq_tools import options, program
 from lcrq_tools.faults import Fault, Parser, say
 from lcrq_tools.program import Broken, Driven
+from lcrq_tools.records import Actor, Cell, Tail, content_of
 from lcrq_tools.start import flaws
 
 START = """{{
@@ -85,19 +86,18 @@ WORDS: dict[str, Callable[[str], object]] = {
 }
 
 
-def actor_of(reply: str) -> flaws.Actor:
-    """The actor of a reply to `actor A`."""
-    words = reply.split(" ")
-    first = words.index("crq")
-    call = None if words[2] == "none" else [words[2], *map(int, words[3:first])]
-    named = {key: WORDS[key](word) for key, word in zip(words[first::2], words[first + 1::2])}
-    return cast(flaws.Actor, {"pc": words[1], "op": call, **named})
+def actor_of(actor: Actor) -> flaws.Actor:
+    """An actor as it is shown."""
+    word, *value = actor.call.split(" ")
+    call = None if word == "none" else [word, *map(int, value)]
+    named = {key: WORDS[key](word) for key, word in actor.words.items()}
+    return cast(flaws.Actor, {"pc": actor.point, "op": call, **named})
 
 
 def cell_of(content: str) -> flaws.Cell:
     """A cell of a ring."""
-    safe, index, value = content.split(" ")
-    return [bit_of(safe), int(index), value_of(value)]
+    cell = Cell.read(content)
+    return [cell.is_safe, cell.index, cell.value]
 
 
 def slot_of(at: int, content: str) -> flaws.Slot:
@@ -123,7 +123,7 @@ class Asked:
 
     def show(self, place: str) -> str:
         """What is at a place."""
-        return self.driven.ask(f"show {place}")[0].removeprefix("is ")
+        return content_of(self.driven.ask(f"show {place}")[0])
 
     def all_of(self, line: str, first: int = 0) -> list[str]:
         """The replies to a line with this number and each one after it, up to one that is
@@ -134,11 +134,11 @@ class Asked:
 
     def segment(self, name: str) -> flaws.Segment:
         """The segment of this name."""
-        state, tail = self.show(f"tail {name}").split(" ")
+        tail = Tail.read(self.show(f"tail {name}"))
         return {
             "head": int(self.show(f"head {name}")),
-            "tail": int(tail),
-            "closed": state == "closed",
+            "tail": tail.count,
+            "closed": tail.is_closed,
             "next": or_null(self.show(f"next {name}"), name_of),
             "cells": [cell_of(content) for content in self.all_of(f"show cell {name} {{}}")],
         }
@@ -156,7 +156,7 @@ class Asked:
 
     def start(self) -> str:
         """The whole world as the text of a trace that begins there."""
-        actors = [actor_of(reply) for reply in self.all_of("actor {}", 1)]
+        actors = [actor_of(Actor.read(reply)) for reply in self.all_of("actor {}", 1)]
         made = [self.made_by(maker) for maker in range(len(actors) + 1)]
         others: dict[str, object] = {end: name_of(self.show(end)) for end in flaws.ENDS}
         others["array"] = self.array()

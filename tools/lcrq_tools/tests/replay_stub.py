@@ -4,22 +4,22 @@ import json
 from collections.abc import Mapping, Sequence
 from pathlib import Path
 
-from lcrq_tools import machine, model
+from lcrq_tools import machine, model, records
 from lcrq_tools.port import port_log
 from lcrq_tools.port.port_compare import Comparison
 from lcrq_tools.port.port_log import Record
 from lcrq_tools.port.port_replay import Replay
+from lcrq_tools.records import Actor, Step
 
-Made = tuple[str, str, str]  # the line that makes a step, its record behind that, and the reply to `actor A` after it
+Made = tuple[str, str, Actor]  # the line that makes a step, what it did as text, and its actor after it
 
 LABELS = set(model.read(model.PAGE.read_text(encoding="utf-8"))[0])
 
 
-def actor(point: str, call: str = "enq 7", **words: object) -> str:
-    """The reply to `actor A`, with these words in the place of those of an idle actor."""
-    values = dict.fromkeys(port_log.WORDS, "0") | {"crq": "0.0", "new": "0.0", "next": "0.0", "val": "none"}
-    values |= {word: str(it) for word, it in words.items()}
-    return " ".join(["actor", point, call, *(f"{word} {it}" for word, it in values.items())])
+def actor(point: str, call: str = "enq 7", **words: object) -> Actor:
+    """An actor, with these words in the place of those of an idle one."""
+    values = dict.fromkeys(records.WORDS, "0") | {"crq": "0.0", "new": "0.0", "next": "0.0", "val": "none"}
+    return Actor(point, call, values | {word: str(it) for word, it in words.items()})
 
 
 IDLE = actor("Idle", "none")
@@ -59,13 +59,13 @@ class Told(Replay):
     def __init__(
         self, steps: Sequence[Made] = ENQUEUE, shown: Mapping[str, str] = {}, forks: Mapping[str, list[Made]] = {}
     ) -> None:
-        self.steps, self.shown, self.forks = [*steps], shown, forks
+        self.listed, self.shown, self.forks = [*steps], shown, forks
         self.made = 0  # how many of them are live
         self.asked: list[str] = []
         self.opened: list[str] = []  # starts, over which it went on
         self.program, self.folder, self.driven = "lcrqdb", Path("/nowhere"), None
         self.options = ["run", "-", "--actors", "2", "--ring", "2"]
-        self.entries: list[tuple[str, str]] = []
+        self.steps: list[tuple[str, Step]] = []
         self.lines: list[str] = []
         self.before, self.first, self.ring, self.states = 0, 0, 2, [IDLE, IDLE]
 
@@ -83,36 +83,36 @@ class Told(Replay):
             case "writer":
                 return self.writer_of(rest)
             case "actor":
-                own = [state for event, _, state in self.steps[: self.made] if event.split(" ")[1] == rest]
-                return own[-1] if own else IDLE
+                own = [state for event, _, state in self.listed[: self.made] if event.split(" ")[1] == rest]
+                return str(own[-1] if own else IDLE)
             case "step":
-                return self.record_of(int(rest))
+                return self.step_of(int(rest))
             case "back" | "forward":
                 self.made += int(rest) if word == "forward" else -int(rest)
                 return f"at {self.made} 0"
         return self.event(line)
 
-    def record_of(self, number: int) -> str:
-        """The record of a step."""
+    def step_of(self, number: int) -> str:
+        """The reply that has a step."""
         if number > self.made:
             return f"refused 12 NoSuchStep {self.made}"
-        event, entry, _ = self.steps[number - 1]
-        return f"step {number}; {event}; {entry}"
+        event, did, _ = self.listed[number - 1]
+        return f"step {number}; {event}; {did}"
 
     def writer_of(self, place: str) -> str:
         """The last live step that wrote just this place."""
-        entries = [entry for _, entry, _ in self.steps[: self.made]]
-        writers = [at for at, entry in enumerate(entries, 1) if entry.startswith(f"{place}; wrote; ")]
+        live = enumerate(self.listed[: self.made], 1)
+        writers = [at for at, (_, did, _) in live if did.startswith(f"{place}; wrote; ")]
         return f"writer {writers[-1]}" if writers else "writer none"
 
     def event(self, line: str) -> str:
         """The reply to a line that makes a step."""
-        self.steps = self.steps[: self.made] + self.forks[line] if line in self.forks else self.steps
-        wanted = self.steps[self.made][0] if self.made < len(self.steps) else ""
+        self.listed = self.listed[: self.made] + self.forks[line] if line in self.forks else self.listed
+        wanted = self.listed[self.made][0] if self.made < len(self.listed) else ""
         if line == wanted:
             self.made += 1
             return f"ok {self.made}"
-        if line.split(" ")[0] in port_log.CALLS:
+        if line.split(" ")[0] in records.CALLS:
             return "refused 2 NotIdle"
         return "refused 4 NeedsChoice" if wanted.startswith("starve ") else "refused 3 Idle"
 
@@ -123,15 +123,15 @@ class Told(Replay):
     def open_start(self, start: str) -> None:
         """Goes on over a start."""
         self.opened.append(start)
-        self.before, self.lines = len(self.entries), []
-        self.steps, self.made = self.steps[self.made:], 0
+        self.before, self.lines = len(self.steps), []
+        self.listed, self.made = self.listed[self.made:], 0
 
 
 def records_of(*texts: str) -> list[Record]:
     """The records of a log whose actors have the model's numbers."""
-    records = [port_log.record_of(f"a.log:{at}", text, LABELS) for at, text in enumerate(texts, 1)]
-    port_log.number_actors(records)
-    return records
+    made = [port_log.record_of(f"a.log:{at}", text, LABELS) for at, text in enumerate(texts, 1)]
+    port_log.number_actors(made)
+    return made
 
 
 def compared(*texts: str, replay: Replay | None = None) -> Comparison:

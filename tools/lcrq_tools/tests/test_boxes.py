@@ -8,13 +8,15 @@ from lcrq_tools.draw import boxes, queue_drawing
 from lcrq_tools.draw.boxes import Layout, Strip
 from lcrq_tools.draw.figure import width_of
 from lcrq_tools.draw.moment import Chip, Moment, Segment
+from lcrq_tools.records import Cell, Tail
 
 ARRAY = {"ahead": "0", "atail": "0"} | {f"acell {at}": "empty" for at in range(64)}
 
 
 def segment(name: str, following: str = "none", ring: int = 4, is_linked: bool = True) -> Segment:
     """A segment with one value, in its first cell."""
-    return Segment(name, "0", "open 1", following, ["1 0 7", *(f"1 {at} none" for at in range(1, ring))], is_linked)
+    cells = [Cell(True, 0, 7), *(Cell(True, index, None) for index in range(1, ring))]
+    return Segment(name, 0, Tail(False, 1), following, cells, is_linked)
 
 
 def chip(actor: int, place: str) -> Chip:
@@ -66,7 +68,7 @@ class Strips(unittest.TestCase):
 
     def test_a_long_value_makes_boxes_wider(self) -> None:
         wide, narrow = segment("0.0"), segment("0.0")
-        wide.cells[0] = "1 0 18446744073709551615"
+        wide.cells[0] = Cell(True, 0, 18446744073709551615)
         one, other = (Layout(moment([it], []), "no step yet") for it in (narrow, wide))
         self.assertGreater(other.box, one.box)
         self.assertGreater(other.box, width_of("18446744073709551615", boxes.value_size("18446744073709551615"), True))

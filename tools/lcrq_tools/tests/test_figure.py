@@ -64,6 +64,6 @@ class Scripts(unittest.TestCase):
         given = argparse.Namespace(program="lcrqdb", trace="a.trace", actors=None, ring=None)
         self.assertEqual(figure.words_of(given), ["lcrqdb", "load", "--", "a.trace"])
 
-    def test_a_place_is_in_its_segment(self) -> None:
-        places = ["tail 0.0", "cell 2.1 3", "qhead", "acell 4", "whole 1.0"]
-        self.assertEqual([figure.segment_of(it) for it in places], ["0.0", "2.1", "", "", "1.0"])
+    def test_linked_segments_come_in_the_order_of_their_links(self) -> None:
+        nexts = {"2.0": "none", "0.0": "1.0", "1.0": "2.0", "1.1": "none"}
+        self.assertEqual(figure.in_order(nexts, ["1.0", "2.0"]), (["0.0", "1.0", "2.0"], ["1.1"]))

@@ -7,19 +7,20 @@ from xml.etree import ElementTree
 from lcrq_tools.draw import drawing, lanes
 from lcrq_tools.draw.figure import MARGIN, SMALL, width_of
 from lcrq_tools.draw.lanes import Call, Dot, Layout, Picture, Row
+from lcrq_tools.records import Event, Place, Step
 
 LANES = ["actor 1", "actor 2", "qhead", "qtail", "tail 0.0", "value 0.0 0", "index 0.0 0", "next 0.0"]
 
 
-def row(number: int, actor: int, *dots: Dot, reply: str = "", name: str = "") -> Row:
+def row(number: int, actor: int, *dots: Dot, reply: str = "", is_undone: bool = False) -> Row:
     """A row of a step with these dots."""
-    place = dots[0].lane if dots else "-"
-    return Row(name or str(number), number, actor, "E1", False, place, "read", "0", reply, list(dots))
+    place = Place.read(dots[0].lane if dots else "-")
+    return Row(Step(number, Event("go", actor), place, "read", "0", reply), "E1", list(dots), is_undone)
 
 
 def picture(*rows: Row, last: int = 0, drawn: list[str] | None = None) -> Picture:
     """A picture of these rows over the lanes above, or over others."""
-    return Picture("A run", drawn or LANES, list(rows), {}, 1, last or rows[-1].number)
+    return Picture("A run", drawn or LANES, list(rows), {}, 1, last or rows[-1].step.number)
 
 
 def laid_out(of: Picture, legend: list[str] | None = None) -> Layout:
@@ -102,15 +103,19 @@ class Rows(unittest.TestCase):
 class Dots(unittest.TestCase):
     """What a step did on a lane."""
 
+    def dot(self, access: str, answer: str, lane: str, before: str, after: str) -> Dot:
+        """The dot of a step with this access and answer."""
+        return lanes.dot_of(Step(1, Event("go", 1), Place.read(lane), access, answer), lane, before, after)
+
     def test_a_counter_shows_what_was_there(self) -> None:
-        self.assertEqual(lanes.dot_of("wrote", "0", "tail 0.0", "open 0", "open 1").text, "open 0 → open 1")
-        self.assertEqual(lanes.dot_of("wrote", "won", "value 0.0 0", "none", "7").text, "7")
+        self.assertEqual(self.dot("wrote", "0", "tail 0.0", "open 0", "open 1").text, "open 0 → open 1")
+        self.assertEqual(self.dot("wrote", "won", "value 0.0 0", "none", "7").text, "7")
 
     def test_what_lost_shows_what_it_found(self) -> None:
-        self.assertEqual(lanes.dot_of("read", "lost", "qtail", "0.0", "0.0"), Dot("qtail", "lost", "0.0"))
+        self.assertEqual(self.dot("read", "lost", "qtail", "0.0", "0.0"), Dot("qtail", "lost", "0.0"))
 
     def test_a_write_of_the_index_half_only_reads_the_value(self) -> None:
-        kinds = [lanes.dot_of("wrote index", "won", lane, "a", "b").kind for lane in ("value 0.0 0", "index 0.0 0")]
+        kinds = [self.dot("wrote index", "won", lane, "a", "b").kind for lane in ("value 0.0 0", "index 0.0 0")]
         self.assertEqual(kinds, ["read", "wrote"])
 
 

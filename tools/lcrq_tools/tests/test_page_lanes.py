@@ -3,14 +3,15 @@
 import unittest
 from xml.etree import ElementTree
 
-from lcrq_tools.draw.lanes import Dot
+from lcrq_tools.draw.lanes import Dot, Row, heading_of
 from lcrq_tools.page.page_lanes import Lanes
 from lcrq_tools.page.page_viewers import Marks
-from lcrq_tools.page.run_rows import Row
+from lcrq_tools.records import Step
 
 LANES = ["actor 1", "actor 2", "qtail", "tail 0.0"]
-READ = Row(1, "E1", "qtail", "read", "0.0", "", [Dot("qtail", "read", "0.0")])
-DREW = Row(2, "", "tail 0.0", "wrote", "open 0", "", [Dot("tail 0.0", "wrote", "open 0 → open 1")], viewer=3)
+READ = Row(Step.read("step 1; go 1; qtail; read; 0.0; -"), "E1", [Dot("qtail", "read", "0.0")])
+WROTE = Step.read("step 2; go 2; tail 0.0; wrote; open 0; -")
+DREW = Row(WROTE, "", [Dot("tail 0.0", "wrote", "open 0 → open 1")], viewer=3)
 
 
 def drawn(*rows: Row) -> Lanes:
@@ -45,7 +46,7 @@ class Bands(unittest.TestCase):
 
     def test_each_lane_is_in_its_band(self) -> None:
         figure = drawn(READ, DREW)
-        self.assertEqual([name for name, _, _ in figure.bands], ["queue", "segment 0.0"])
+        self.assertEqual([heading_of(name) for name, _, _ in figure.bands], ["queue", "segment 0.0"])
         for (_, left, right), lane in zip(figure.bands, ("qtail", "tail 0.0")):
             self.assertTrue(left < figure.at[lane] < right)
         self.assertLess(figure.bands[0][2], figure.bands[1][1])

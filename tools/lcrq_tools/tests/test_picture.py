@@ -4,8 +4,9 @@ import unittest
 from collections.abc import Sequence
 
 from lcrq_tools.draw import picture
-from lcrq_tools.draw.lanes import Row
+from lcrq_tools.draw.lanes import Row, row_of
 from lcrq_tools.faults import Fault
+from lcrq_tools.records import Place, Step
 from lcrq_tools.tests.stubs import with_program
 
 RECORDS = [
@@ -19,7 +20,7 @@ RECORDS = [
 
 def rows(live: int = 5) -> list[Row]:
     """The rows of the records, of which so many are live."""
-    return [picture.row_of(at, record, live) for at, record in enumerate(RECORDS, 1)]
+    return [row_of(step, step.number > live) for step in map(Step.read, RECORDS)]
 
 
 def window(*words: str, count: int = 5) -> tuple[int, int]:
@@ -51,8 +52,8 @@ class Choices(unittest.TestCase):
 
     def chosen(self, places: Sequence[str] = (), actors: Sequence[int] = (), asked: int | None = None) -> list[int]:
         """The numbers of the steps that are chosen of all."""
-        choice = picture.Choice(1, 5, list(places), list(actors))
-        return [row.number for row in choice.rows_of(rows(), asked)]
+        choice = picture.Choice(1, 5, [*map(Place.read, places)], list(actors))
+        return [row.step.number for row in choice.rows_of(rows(), asked)]
 
     def test_a_cell_has_its_halves(self) -> None:
         self.assertEqual(self.chosen(["value 0.0 1"]), [5])
@@ -60,7 +61,7 @@ class Choices(unittest.TestCase):
 
     def test_a_whole_segment_has_all_its_places(self) -> None:
         self.assertEqual(self.chosen(["whole 0.0"]), [3, 5])
-        self.assertFalse(picture.are_one("whole 1.0", "tail 0.0"))
+        self.assertFalse(Place.read("whole 1.0").overlaps(Place.read("tail 0.0")))
 
     def test_actors_add_to_places(self) -> None:
         self.assertEqual(self.chosen(["qtail"], [2]), [2, 4])
@@ -85,17 +86,10 @@ class Rows(unittest.TestCase):
 
     def test_a_call_is_its_own_point(self) -> None:
         first, second, *_, last = rows()
-        self.assertEqual((first.point, first.actor, first.begins, first.reply), ("enq 9", 3, True, ""))
-        self.assertEqual((second.point, second.begins, second.place, second.answer), ("", False, "qtail", "0.0"))
-        self.assertEqual((last.point, last.reply), ("yes", "enqueued"))
+        self.assertEqual((first.point, first.actor(), first.step.reply), ("enq 9", 3, ""))
+        self.assertTrue(first.step.event.is_call())
+        self.assertEqual((second.point, second.step.event.is_call(), second.step.answer), ("", False, "0.0"))
+        self.assertEqual((str(second.step.place), last.point, last.step.reply), ("qtail", "yes", "enqueued"))
 
     def test_a_step_after_the_live_ones_is_undone(self) -> None:
-        self.assertEqual([row.name for row in rows(live=3)], ["1", "2", "3", "undone", "undone"])
-
-
-class Chains(unittest.TestCase):
-    """The order of segments."""
-
-    def test_linked_segments_come_in_the_order_of_their_links(self) -> None:
-        nexts = {"2.0": "none", "0.0": "1.0", "1.0": "2.0", "1.1": "none"}
-        self.assertEqual(picture.chain_of(nexts, ["1.0", "2.0"]), (["0.0", "1.0", "2.0", "1.1"], {"1.1"}))
+        self.assertEqual([row.name() for row in rows(live=3)], ["1", "2", "3", "undone", "undone"])

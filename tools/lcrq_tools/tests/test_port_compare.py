@@ -5,6 +5,7 @@ from unittest import mock
 
 from lcrq_tools.port import port_compare
 from lcrq_tools.port.port_compare import Difference
+from lcrq_tools.records import Actor
 from lcrq_tools.tests.replay_stub import ENQUEUE, IDLE, LOG, Made, Told, actor, compared, with_record
 
 # Up to E10, where the log may leave out what the schedule chose, and what follows each choice.
@@ -29,8 +30,9 @@ class Words(unittest.TestCase):
 
     def test_the_point_and_the_words(self) -> None:
         state = actor("Q2", "deq", crq="1.0", h=3)
-        self.assertEqual((port_compare.point_of(state), port_compare.words_of(state)["crq"]), ("Q2", "1.0"))
-        self.assertEqual(list(port_compare.words_of(IDLE))[:4], ["crq", "new", "next", "t"])
+        read = Actor.read(str(state))
+        self.assertEqual((read.point, read.words["crq"], read), ("Q2", "1.0", state))
+        self.assertEqual(list(Actor.read(str(IDLE)).words)[:4], ["crq", "new", "next", "t"])
 
 
 class Agreement(unittest.TestCase):
@@ -42,7 +44,7 @@ class Agreement(unittest.TestCase):
         wanted = {"labels": 5, "places": 4, "answers": 6, "replies": 1, "words": 2}
         self.assertEqual((comparison.compared, comparison.accesses), (wanted, 6))
         self.assertEqual(comparison.replay.lines, [line for line, _, _ in ENQUEUE])
-        self.assertEqual([point for point, _ in comparison.replay.entries], "Idle E1 E2 E4 E5 E6 E8".split(" "))
+        self.assertEqual([point for point, _ in comparison.replay.steps], "Idle E1 E2 E4 E5 E6 E8".split(" "))
         self.assertEqual((comparison.ends, comparison.names.segments), ({0: "enqueued"}, {"root": "0.0"}))
         self.assertEqual((comparison.steps_of, comparison.at), ({1: 7}, len(LOG)))
 
@@ -99,13 +101,14 @@ class Differences(unittest.TestCase):
                 return "refused 6 CounterEnd" if line == "go 1" else super().event(line)
 
         found = difference(*LOG, replay=Full())
-        self.assertEqual((found.kind, found.model, found.entry), ("refused", "refused 6 CounterEnd", []))
+        self.assertEqual((found.kind, found.model, found.made), ("refused", "refused 6 CounterEnd", None))
 
     def test_the_model_is_then_as_before_the_record(self) -> None:
         told = Told()
         found = difference(*LOG[:3], "4 1 E4 open 1", *LOG[4:], replay=told)
         self.assertEqual((told.made, told.asked[-1], len(told.lines)), (3, "back 4", 3))
-        self.assertEqual((found.step, found.point, found.entry), (4, "E4", ["tail 0.0", "wrote", "open 0", "-"]))
+        made = "step 4; go 1; tail 0.0; wrote; open 0; -"
+        self.assertEqual((found.step, found.point, str(found.made)), (4, "E4", made))
         self.assertEqual((found.label(), found.state), ("E4", actor("E4")))
 
     def test_a_reply_belongs_to_the_last_step(self) -> None:
@@ -123,7 +126,7 @@ class Choices(unittest.TestCase):
                 comparison = compared("1 1 enq 7", "2 1 E9 0", f"3 1 {label} open 0", replay=told)
                 self.assertIsNone(comparison.difference())
                 self.assertEqual((comparison.chosen, comparison.at, told.lines[2:]), (1, 3, [line, "go 1"]))
-                self.assertEqual((told.made, told.states[0]), (4, told.steps[3][2]))
+                self.assertEqual((told.made, told.states[0]), (4, told.listed[3][2]))
 
     def test_no_choice_agrees_with_any_other_record(self) -> None:
         told = Told([*TO_E10, *CHOSEN["starve 1 yes"]], forks=CHOSEN)

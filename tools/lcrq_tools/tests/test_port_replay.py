@@ -11,6 +11,7 @@ from unittest import mock
 from lcrq_tools.port import port_replay
 from lcrq_tools.port.port_replay import Known, Replay
 from lcrq_tools.program import Broken
+from lcrq_tools.records import Step
 from lcrq_tools.start import freeze
 from lcrq_tools.tests.replay_stub import IDLE, START, Told, actor
 
@@ -19,6 +20,8 @@ FAKE = rf"""#!/bin/sh
 exec sed -u -e 's/^len$/at 2 0/; s/^actor [12]$/{IDLE}/; s/^actor [0-9]*$/refused 1 NoActor/' \
     -e 's/^show index 0.0 [0-3]$/is 1 0/; s/^show index.*/refused 19 NoSuchPlace/; /^end/q'
 """
+
+CALLED, WENT = (Step.read(text) for text in ("step 3; deq 2; -; none; -; -", "step 4; go 2; qhead; read; 0.0; -"))
 
 
 @contextlib.contextmanager
@@ -62,16 +65,16 @@ class Runs(unittest.TestCase):
 
     def test_steps_are_kept_and_taken_back(self) -> None:
         with replay() as made:
-            made.keep("deq 2", "Idle", "-; none; -; -", actor("Q1", "deq"))
-            made.keep("go 2", "Q1", "qhead; read; 0.0; -", actor("Q2", "deq"))
+            made.keep("deq 2", "Idle", CALLED, actor("Q1", "deq"))
+            made.keep("go 2", "Q1", WENT, actor("Q2", "deq"))
             self.assertEqual((made.count(), made.live(), made.states), (2, 4, [IDLE, actor("Q2", "deq")]))
             made.drop(actor("Q1", "deq"))
-            self.assertEqual((made.lines, made.entries), (["deq 2"], [("Idle", "-; none; -; -")]))
+            self.assertEqual((made.lines, made.steps), (["deq 2"], [("Idle", CALLED)]))
             self.assertEqual(made.states[1], actor("Q1", "deq"))
 
     def test_over_a_start_the_steps_before_it_stay_counted(self) -> None:
         with replay() as made:
-            made.keep("deq 2", "Idle", "-; none; -; -", actor("Q1", "deq"))
+            made.keep("deq 2", "Idle", CALLED, actor("Q1", "deq"))
             made.open_start("a start")
             file = made.folder / "1.trace"
             self.assertEqual((file.read_text(encoding="ascii"), made.options), ("a start", ["load", "--", str(file)]))
@@ -89,7 +92,7 @@ class World(Told):
         """The reply to a line."""
         word, *rest = line.split(" ")
         if word == "actor":
-            return IDLE if int(rest[0]) < len(self.counts) else "refused 1 NoActor"
+            return str(IDLE) if int(rest[0]) < len(self.counts) else "refused 1 NoActor"
         if rest[0] in ("whole", "tail", "head", "next", "cell"):
             maker, number = map(int, rest[1].split("."))
             is_there = number < self.counts[maker] and int(rest[2] if rest[2:] else 0) < 2

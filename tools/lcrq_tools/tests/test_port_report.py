@@ -11,7 +11,8 @@ from lcrq_tools.faults import Fault
 from lcrq_tools.page import page
 from lcrq_tools.port import port_report
 from lcrq_tools.port.port_compare import Comparison, Difference
-from lcrq_tools.port.port_report import About, overlap, phrase_of, said_of
+from lcrq_tools.port.port_report import About, phrase_of, said_of
+from lcrq_tools.records import Actor, Place, Step
 from lcrq_tools.tests.replay_stub import ENQUEUE, IDLE, LOG, Told, actor, compared, records_of, with_record
 
 SHOWN = {"show tail 0.0": "is open 0"}
@@ -26,9 +27,11 @@ def about(*texts: str, told: Told | None = None) -> About:
     return About(comparison, found)
 
 
-def differs(kind: str, port: str, model: str, point: str = "E4", state: str = "", text: str = LOG[3]) -> Difference:
+def differs(
+    kind: str, port: str, model: str, point: str = "E4", *, state: Actor | None = None, text: str = LOG[3]
+) -> Difference:
     """A difference of this kind."""
-    return Difference(3, records_of(text)[0], 4, kind, port, model, point, [], state or actor(point))
+    return Difference(3, records_of(text)[0], 4, kind, port, model, point, None, state or actor(point))
 
 
 class Phrases(unittest.TestCase):
@@ -47,7 +50,7 @@ class Phrases(unittest.TestCase):
             ("atail", "3", "ArrTail is 3"),
         ]
         for place, content, said in rows:
-            self.assertEqual(phrase_of(place, content), said)
+            self.assertEqual(phrase_of(Place.read(place), content), said)
 
     def test_both_sides_of_each_kind(self) -> None:
         starve = "refused 4 NeedsChoice"
@@ -71,7 +74,7 @@ class Phrases(unittest.TestCase):
 
     def test_a_reply_in_a_record_of_its_own_is_after_the_last_step(self) -> None:
         for state, where in ((IDLE, "in no call"), (actor("E9"), "at E9")):
-            found = differs("reply", "value 7", "", "E8", state, "8 1 value 7")
+            found = differs("reply", "value 7", "", "E8", state=state, text="8 1 value 7")
             self.assertEqual(said_of(found), f"the port's call replied value 7 after E8, the model is {where}")
 
     def test_a_step_touches_a_place_that_is_a_part_of_its_own(self) -> None:
@@ -80,8 +83,8 @@ class Phrases(unittest.TestCase):
             ("whole 1.0; wrote; made 1.0; -", "tail 1.0", True), ("tail 1.0; read; open 0; -", "whole 0.0", False),
             ("-; none; -; -", "qtail", False), ("qtail; read; 0.0; -", "qtail", True),
         ]
-        for entry, place, wanted in rows:
-            self.assertEqual(overlap(entry, place), wanted)
+        for did, place, wanted in rows:
+            self.assertEqual(Step.read(f"step 1; go 1; {did}").place.overlaps(Place.read(place)), wanted)
 
 
 class Texts(unittest.TestCase):
@@ -107,10 +110,10 @@ class Texts(unittest.TestCase):
 
     def test_what_was_touched_since_is_named(self) -> None:
         made = about(*LOG, "8 1 empty")
-        self.assertEqual([*made.touched("tail 0.0")], [
+        self.assertEqual([*made.touched(Place.read("tail 0.0"))], [
             "tail 0.0 was written by step 4, `go 1` at E4: tail 0.0; wrote; open 0",
         ])
-        self.assertEqual([*made.touched("whole 0.0")], [
+        self.assertEqual([*made.touched(Place.read("whole 0.0"))], [
             "whole 0.0 was written by no step of this run",
             "  and touched since by step 3, `go 1` at E2: next 0.0; read; none;"
             " step 4, `go 1` at E4: tail 0.0; wrote; open 0;"
@@ -119,10 +122,10 @@ class Texts(unittest.TestCase):
             " step 7, `go 1` at E8: cell 0.0 0; wrote; won; enqueued",
         ])
         with mock.patch.object(port_report, "TOUCHES", 1):
-            self.assertIn("touched since by 4 more, then step 7, ", [*made.touched("whole 0.0")][1])
+            self.assertIn("touched since by 4 more, then step 7, ", [*made.touched(Place.read("whole 0.0"))][1])
 
     def test_the_places_in_question_are_those_of_both_steps(self) -> None:
-        self.assertEqual(about(*DREW).places(), ["next 0.0", "tail 0.0"])
+        self.assertEqual(about(*DREW).places(), [Place("next", "0.0"), Place("tail", "0.0")])
         self.assertEqual(about("1 1 E1 qtail").places(), [])
 
 

@@ -13,6 +13,7 @@ from lcrq_tools import program
 from lcrq_tools.port import port_side
 from lcrq_tools.port.port_side import Change, Side, put
 from lcrq_tools.program import Ended
+from lcrq_tools.records import Place
 from lcrq_tools.start.flaws import IDLE as IDLE_ACTOR, Segment, Start, with_words
 from lcrq_tools.tests.replay_stub import ENQUEUE, IDLE, LOG, START, Told, actor, compared, with_record
 
@@ -58,18 +59,18 @@ class Puts(unittest.TestCase):
         for place, old, new, found, wanted in rows:
             with self.subTest(place):
                 made = start()
-                put(made, place, new)
+                put(made, Place.read(place), new)
                 self.assertEqual(found(made), wanted)
-                put(made, place, old)
+                put(made, Place.read(place), old)
                 self.assertEqual(made, start())
 
     def test_slots_of_the_array_stay_in_their_order(self) -> None:
         made = start()
         rows = [("acell 4", "value 9"), ("acell 1", "top"), ("acell 4", "value 8"), ("acell 2", "empty")]
         for place, content in rows:
-            put(made, place, content)
+            put(made, Place.read(place), content)
         self.assertEqual(made["array"]["cells"], [[1, "top"], [4, 8]])
-        put(made, "acell 1", "empty")
+        put(made, Place.read("acell 1"), "empty")
         self.assertEqual(made["array"]["cells"], [[4, 8]])
 
 
@@ -89,7 +90,7 @@ class Changes(unittest.TestCase):
         self.assertEqual(said[-1], "tail 0.0 is closed 0")
 
     def test_another_place_without_a_label_may_be_of_any_point(self) -> None:
-        said = [it.said for it in side(*with_record(3, "4 1 head root")).changes()]
+        said = [it.said for it in side(*with_record(3, "4 1 head root"), told=Told(shown=SHOWN)).changes()]
         self.assertEqual(said[:2], ["pc E1", "pc E2"])
 
     def test_contents_are_what_the_port_found_first(self) -> None:
@@ -104,7 +105,7 @@ class Changes(unittest.TestCase):
         told = Told(shown={"show cell 0.0 0": "is 1 0 none"})
         changes = [*side(*with_record(6, "7 1 E8 lost"), told=told).changes()]
         self.assertEqual([it.said for it in changes][-1], "cell 0.0 0 is 1 1 none")
-        self.assertEqual({it.restored for it in changes}, {("cell 0.0 0", "1 0 none")})
+        self.assertEqual({it.restored for it in changes}, {(Place.read("cell 0.0 0"), "1 0 none")})
 
 
 class Trials(unittest.TestCase):
@@ -157,8 +158,8 @@ class Trials(unittest.TestCase):
     def test_what_the_step_only_had_to_find_is_put_back(self) -> None:
         told = Told([*ENQUEUE[:6], ("go 1", "cell 0.0 0; read; lost; -", actor("E9"))])
         made = side(*with_record(6, "7 1 E8 won; enqueued"), told=told)
-        changed = copy.deepcopy(made.world)
-        put(changed["start"], "cell 0.0 0", "1 1 none")
-        made.go_on(Change("cell 0.0 0 is 1 1 none", changed, ("cell 0.0 0", "0 4 none")), [])
+        changed, cell = copy.deepcopy(made.world), Place.read("cell 0.0 0")
+        put(changed["start"], cell, "1 1 none")
+        made.go_on(Change("cell 0.0 0 is 1 1 none", changed, (cell, "0 4 none")))
         cells = [json.loads(it)["start"]["segments"][0][0]["cells"][0] for it in told.opened]
         self.assertEqual((cells, made.comparison.at), ([[True, 1, None], [False, 4, None]], 7))

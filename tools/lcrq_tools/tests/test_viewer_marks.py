@@ -9,6 +9,7 @@ from lcrq_tools.draw.moment import Moment, Segment
 from lcrq_tools.page import page_parts
 from lcrq_tools.page.page_viewers import Marks
 from lcrq_tools.page.run_states import State
+from lcrq_tools.records import Cell, Event, Place, Step, Tail
 
 SVG = "{http://www.w3.org/2000/svg}"
 ALL = range(1, 65)
@@ -18,15 +19,15 @@ def picture(*viewers: int) -> Picture:
     """A picture of steps that these viewers asked; 0 is nobody."""
     dots = [Dot("qtail", "read", "0.0")]
     rows = [
-        Row(str(at), at, 1, "E1", False, "qtail", "read", "0.0", "", dots, viewer=viewer)
-        for at, viewer in enumerate(viewers, 1)
+        Row(Step(number, Event("go", 1), Place("qtail"), "read", "0.0"), "E1", dots, viewer=viewer)
+        for number, viewer in enumerate(viewers, 1)
     ]
     return Picture("A run", ["actor 1", "qtail"], rows, {}, 1, len(rows))
 
 
 def moment(viewer: int) -> Moment:
     """The queue before any step, after a line of this viewer."""
-    segment = Segment("0.0", "0", "open 0", "none", ["1 0 none", "1 1 none"])
+    segment = Segment("0.0", 0, Tail(False, 0), "none", [Cell(True, 0, None), Cell(True, 1, None)])
     array = {"ahead": "0", "atail": "0"} | {f"acell {at}": "empty" for at in range(64)}
     return Moment("A queue", "after line 1", "4 actors", "0.0", "0.0", [segment], array, [], [1], None, set(), viewer)
 
