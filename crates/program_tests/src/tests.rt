@@ -3,7 +3,6 @@
 
 mod command_lines;
 mod ends;
-mod lives;
 mod loads;
 mod outcomes;
 mod plays;
