@@ -3,6 +3,7 @@
 
 mod command_lines;
 mod ends;
+mod lives;
 mod loads;
 mod outcomes;
 mod plays;
