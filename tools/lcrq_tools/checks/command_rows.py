@@ -24,7 +24,7 @@ def texts_of(path: Path, name: str) -> list[str]:
     return [json.loads(f'"{text}"') for text in TEXT.findall(re.sub(r"\\\n\s*", "", found[0]))]
 
 
-def asked() -> list[tuple[str, str]]:
+def asked_rows() -> list[tuple[str, str]]:
     """Lines of all commands, to be asked in order, each with its reply."""
     texts = texts_of(ROWS, "ASKED")
     return [(line, reply.removesuffix("\n")) for line, reply in zip(texts[::2], texts[1::2], strict=True)]
@@ -43,7 +43,7 @@ def listed_in(text: str) -> set[str]:
     return {form for row in found[1].splitlines() for form in row.split(maxsplit=1)[1].split(", ")}
 
 
-def lacking() -> Iterator[tuple[str, str]]:
+def list_faults() -> Iterator[tuple[str, str]]:
     """Each list of commands, and what it has more or less than the manual's table of lines."""
     forms = listed_in(texts_of(KEYWORDS, "FORMS")[0])
     yield "the help's forms", ", ".join(sorted(forms ^ {*manual.FORMS, *manual.PLACES}))
@@ -51,7 +51,7 @@ def lacking() -> Iterator[tuple[str, str]]:
     events = {word for word in wanted if program.MAKES_A_STEP.match(f"{word} ".encode())}
     lists = {
         "the manual's table of replies": {*manual.ANSWERED, *events},
-        "ASKED of test_kit": keywords_in(line for line, _ in asked()),
+        "ASKED of test_kit": keywords_in(line for line, _ in asked_rows()),
         "KINDS of test_kit": {*keywords_in(texts_of(ROWS, "KINDS")), "go"},
     }
     for name, words in lists.items():

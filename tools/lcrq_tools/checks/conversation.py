@@ -2,11 +2,10 @@
 
     python3 tools/check.py conversation [--program P]
 
-The programs of the gate have their whole input before them, so none of them shows that a reply goes
-out before the next line is read. Here the program gets no line more until it has replied. The lines
-and their replies are the rows `ASKED` of `test_kit`, which have each command. One viewer asks them
-too. Each line prints one line, and so does the view; the status is 1 if a reply is another, or has
-not come after ten seconds. Only Python's standard library is used.
+The programs of the gate have their whole input before them, so none of them shows that a reply goes out before the next
+line is read. Here the program gets no line more until it has replied. The lines and their replies are the rows `ASKED`
+of `test_kit`, which have each command. One viewer asks them too. Each line prints one line, and so does the view; the
+status is 1 if a reply is another, or has not come after ten seconds. Only Python's standard library is used.
 """
 
 import argparse
@@ -44,7 +43,7 @@ def view_fault(built: str, asked: list[tuple[str, str]]) -> str:
 
 def all_checks(given: argparse.Namespace) -> Iterator[tuple[str, str]]:
     """Each line, with what is wrong with the reply to it, or nothing; then the view."""
-    asked = command_rows.asked()
+    asked = command_rows.asked_rows()
     with program.Driven([given.program, "run", "-"], SECONDS) as driven:
         yield from checks_of(driven, asked)
     yield "a view of all lines", view_fault(given.program, asked)

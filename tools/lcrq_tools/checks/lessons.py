@@ -1,12 +1,10 @@
-"""Runs the scripts of the lessons, of the guide and of the sessions, and compares the replies with
-their pages.
+"""Runs the scripts of the lessons, of the guide and of the sessions, and compares the replies with their pages.
 
     python3 tools/check.py lessons [--program P]
 
-A page of `examples/` has its script beside the replies in a table, with words in the last column,
-which are for readers alone. It has just the tables and traces that its scripts give, in this order,
-byte for byte. A lesson runs over a fresh world, with the defaults, unless its page has one of these
-lines:
+A page of `examples/` has its script beside the replies in a table, with words in the last column, which are for readers
+alone. It has just the tables and traces that its scripts give, in this order, byte for byte. A lesson runs over a fresh
+world, with the defaults, unless its page has one of these lines:
 
     Run with: --ring 2         with these options
     Run over: `NAME.trace`     over the trace of the lesson's name; the page may show it before its table
@@ -14,18 +12,17 @@ lines:
     Run live by Anna, viewer 1, and Ben, viewer 2.
                                its table says who types which line, also one that is no command
 
-What viewers type live goes into named pipes, in the order of the table: each line has its reply before
-the next one is typed. The history that the program then writes is `NAME.history`, its lines are
-`NAME.script`, and one run of that script has to reply the same.
+What viewers type live goes into named pipes, in the order of the table: each line has its reply before the next one is
+typed. The history that the program then writes is `NAME.history`, its lines are `NAME.script`, and one run of that
+script has to reply the same.
 
-The guide has the tables of guide-1 to guide-7 with traces between them, and a table of mistakes in
-a trace, each with the line that `load` writes to standard error. In its table of two viewers, letters
-stand for the numbers that another order of their calls would change. Each session, of the README, the
-manual or the recipes, has a report beside its script, and may run over the trace of its name.
+The guide has the tables of guide-1 to guide-7 with traces between them, and a table of mistakes in a trace, each with
+the line that `load` writes to standard error. In its table of two viewers, letters stand for the numbers that another
+order of their calls would change. Each session, of the README, the manual or the recipes, has a report beside its
+script, and may run over the trace of its name.
 
-Each row runs with each build of the program that is there: that of LLVM and, beside it, that of
-Rattle's own compiler. The status is 1 if a page or report is another one. Only Python's standard
-library is used.
+Each row runs with each build of the program that is there: that of LLVM and, beside it, that of Rattle's own compiler.
+The status is 1 if a page or report is another one. Only Python's standard library is used.
 """
 
 import functools
@@ -36,40 +33,17 @@ from collections.abc import Iterable, Iterator, Sequence
 from pathlib import Path
 
 from lcrq_tools import history, program
+from lcrq_tools.checks.answers import report_of, run_over
 from lcrq_tools.clients import Live, finish, replies_of, talk
-from lcrq_tools.program import EXAMPLES, Broken, Ended, lines_of
+from lcrq_tools.program import EXAMPLES, Broken, lines_of, row_of
 
 # The lessons, in the order of reading: each has a page and a script of this name.
-LESSONS = [
-    "01-one-enqueue-and-back",
-    "02-empty-dequeue-repairs-tail",
-    "03-refused-undo-names-dependant",
-    "04-independent-steps-change-places",
-    "05-unsafe-cell",
-    "06-starvation-closes-ring",
-    "07-two-makers-race",
-    "08-causal-rollback",
-    "09-bookmarks-and-same",
-    "10-array-queue-livelock",
-    "11-who-wrote-this",
-    "12-two-viewers",
-    "13-a-start-of-ones-own",
-    "14-what-the-safe-bit-prevents",
-    "15-why-a-dequeue-looks-twice",
-    "16-a-port-beside-the-model",
-]
+LESSONS = sorted(path.stem for path in EXAMPLES.glob("[0-9]*.md"))
 GUIDE = "guide"
 # The sessions, and whether each runs over the trace of its name: that of README.md, the examples of
 # docs/MANUAL.md, and two draws from the poised world.
-SESSIONS = {
-    "session": False,
-    "manual-1": False,
-    "manual-2": False,
-    "manual-3": False,
-    "manual-4": False,
-    "manual-5": True,
-    "poised": True,
-}
+SESSIONS = dict.fromkeys(["session", "manual-1", "manual-2", "manual-3", "manual-4"], False)
+SESSIONS |= {"manual-5": True, "poised": True}
 # Mistakes in the guide's start: the text that is there, and the wrong text in its place.
 MISTAKES = [
     ('"ring": 2', '"ring": 4'),
@@ -84,7 +58,7 @@ MISTAKES = [
 # a trace begin.
 HEADINGS = "| Line | Reply | What happens |"
 LIVE_HEADINGS = f"| Who {HEADINGS}"
-MISTAKES_HEAD = "\n| In place of | Somebody writes | `load` answers |\n|---|---|---|\n"
+MISTAKES_HEAD = "| In place of | Somebody writes | `load` answers |"
 TRACE_HEAD = "```json\n"
 ROW = re.compile(r"\| (?:\w+ \| )?`")  # how one begins below the head of the first two
 LIVE_ROW = re.compile(r"^\| (\w+) \| `([^`]*)` \| `([^`]*)` \|", re.MULTILINE)  # who types what, and the reply
@@ -98,14 +72,13 @@ def text_of(name: str) -> str:
     return (EXAMPLES / name).read_bytes().decode()
 
 
+def options_in(page: str) -> list[str]:
+    """The options with which the script of a page runs over a fresh world."""
+    found = OPTIONS.search(page)
+    return found[1].split() if found else []
+
+
 # ---- Runs ----------------------------------------------------------------------------------------
-
-
-def report_of(ended: Ended) -> str:
-    """What a run wrote, which has to end well."""
-    if ended.status or ended.errors:
-        raise Broken(f"the program ended with status {ended.status}: {ended.errors.strip()}")
-    return ended.output.decode()
 
 
 def report(built: str, *words: str) -> str:
@@ -113,12 +86,9 @@ def report(built: str, *words: str) -> str:
     return report_of(program.run([built, *words], cwd=EXAMPLES))
 
 
-def loaded(built: str, trace: str, script: str = "") -> Ended:
-    """What a run of a script over the run of a trace gives."""
-    with tempfile.NamedTemporaryFile(suffix=".trace") as file:
-        file.write(trace.encode())
-        file.flush()
-        return program.run([built, "load", file.name], script.encode())
+def report_over(built: str, trace: str, script: str) -> str:
+    """The report of the script of this file over the run of a trace."""
+    return report_of(run_over(built, trace, text_of(script)))
 
 
 def typed_in_turn(built: str, names: Sequence[str], typed: Sequence[tuple[str, str]]) -> tuple[list[str], str]:
@@ -143,13 +113,23 @@ def typed_in_turn(built: str, names: Sequence[str], typed: Sequence[tuple[str, s
 # ---- Tables and traces ---------------------------------------------------------------------------
 
 
+def code_cells(*texts: str) -> tuple[str, ...]:
+    """Cells of a table that are code."""
+    return tuple(f"`{text}`" for text in texts)
+
+
+def table(head: str, rows: Iterable[Sequence[str]]) -> str:
+    """A table with this head, between two empty lines."""
+    lines = "".join(f"{row_of(*row)}\n" for row in rows)
+    return f"\n{head}\n{'|---' * (head.count('|') - 1)}|\n{lines}\n"
+
+
 def table_of(script: str, replies: list[str]) -> str:
-    """The table of a script's lines and the replies to them, between two empty lines."""
+    """The table of a script's lines and the replies to them."""
     lines = lines_of(script)
     if len(lines) != len(replies):
         raise Broken(f"{len(lines)} lines have {len(replies)} replies")
-    rows = "".join(f"| `{line}` | `{reply}` |\n" for line, reply in zip(lines, replies))
-    return f"\n{HEADINGS}\n|---|---|---|\n{rows}\n"
+    return table(HEADINGS, map(code_cells, lines, replies))
 
 
 def trace_block(trace: str) -> str:
@@ -159,8 +139,7 @@ def trace_block(trace: str) -> str:
 
 def table_over(built: str, trace: str, script: str) -> str:
     """The table of the script of this file over the run of a trace."""
-    lines = text_of(script)
-    return table_of(lines, lines_of(report_of(loaded(built, trace, lines))))
+    return table_of(text_of(script), lines_of(report_over(built, trace, script)))
 
 
 def table_and_trace(built: str, script: str) -> tuple[str, str]:
@@ -169,7 +148,7 @@ def table_and_trace(built: str, script: str) -> tuple[str, str]:
     return table_of(text_of(script), replies), f"{trace}\n"
 
 
-def masked(reply: str) -> str:
+def mask_numbers(reply: str) -> str:
     """A reply with letters in place of the numbers that another order of the viewers' calls would
     change: those of steps, how many are live, and a tail's counter."""
     reply = re.sub(r"^ok [^ ]*", "ok K", reply)
@@ -183,7 +162,7 @@ def table_of_viewers(built: str, name: str) -> str:
     files = [f"{name}-1.script", f"{name}-2.script"]
     lines = "".join(f"{file}\n{text_of(file)}" for file in files)
     replies = lines_of(report(built, "view", *files))
-    return table_of(f"{lines}the end\n", [masked(reply) for reply in replies])
+    return table_of(f"{lines}the end\n", [mask_numbers(reply) for reply in replies])
 
 
 def table_at_terminals(built: str, name: str, names: Sequence[str], page: str) -> str:
@@ -198,21 +177,19 @@ def table_at_terminals(built: str, name: str, names: Sequence[str], page: str) -
         if text_of(file) != text:
             raise Broken(f"{file} has other calls than its table")
     answers = enumerate(lines_of(report(built, "run", f"{name}.script")), 1)
-    if [f"{number} {answer}" for number, answer in answers] != [it for it in replies if not it.startswith("- ")]:
+    if [f"{number} {answer}" for number, answer in answers] != [text for text in replies if not text.startswith("- ")]:
         raise Broken(f"a run of {name}.script has other replies than the viewers")
-    rows = "".join(f"| {who} | `{line}` | `{reply}` |\n" for (who, line), reply in zip(typed, replies))
-    return f"\n{LIVE_HEADINGS}\n|---|---|---|---|\n{rows}\n"
+    return table(LIVE_HEADINGS, [(who, *code_cells(line, reply)) for (who, line), reply in zip(typed, replies)])
 
 
 def table_of_mistakes(built: str, trace: str) -> str:
-    """The table of what `load` answers to each mistake in a trace, between two empty lines. A mistake
-    has no row if the trace doesn't have its right text or still loads."""
-    rows = ""
+    """The table of what `load` answers to each mistake in a trace. A mistake has no row if the trace doesn't have
+    its right text or still loads."""
+    rows = []
     for right, wrong in MISTAKES:
-        before, found, behind = trace.partition(right)
-        answers = lines_of(loaded(built, before + wrong + behind).errors) if found else []
-        rows += "".join(f"| `{right}` | `{wrong}` | `{answer}` |\n" for answer in answers)
-    return f"{MISTAKES_HEAD}{rows}\n"
+        answers = lines_of(run_over(built, trace.replace(right, wrong, 1)).errors) if right in trace else []
+        rows += [code_cells(right, wrong, answer) for answer in answers]
+    return table(MISTAKES_HEAD, rows)
 
 
 # ---- What a page must have -----------------------------------------------------------------------
@@ -234,22 +211,21 @@ def lesson_blocks(built: str, name: str, page: str) -> Iterable[str]:
         return over_trace(built, name, TRACE_HEAD in page)
     if live := LIVE.search(page):
         return [table_at_terminals(built, name, live.groups(), page)]
-    script, options = f"{name}.script", OPTIONS.search(page)
-    replies = report(built, "run", script, *(options[1].split() if options else []))
-    return [table_of(text_of(script), lines_of(replies))]
+    script = f"{name}.script"
+    return [table_of(text_of(script), lines_of(report(built, "run", script, *options_in(page))))]
 
 
 def guide_blocks(built: str) -> Iterator[str]:
     """The tables and traces of the guide, in order."""
-    table, drawn = table_and_trace(built, "guide-1.script")
-    yield from (table, trace_block(drawn))
+    lines, drawn = table_and_trace(built, "guide-1.script")
+    yield from (lines, trace_block(drawn))
     for script in ("guide-2.script", "guide-3.script"):
         yield table_over(built, drawn, script)
     yield from over_trace(built, "guide-4")
     yield table_of_mistakes(built, text_of("guide-4.trace"))
     yield table_of_viewers(built, "guide-5")
-    table, handed_on = table_and_trace(built, "guide-6.script")
-    yield from (table, trace_block(handed_on), table_over(built, handed_on, "guide-7.script"))
+    lines, handed_on = table_and_trace(built, "guide-6.script")
+    yield from (lines, trace_block(handed_on), table_over(built, handed_on, "guide-7.script"))
 
 
 # ---- What a page has -----------------------------------------------------------------------------
@@ -288,24 +264,17 @@ def blocks_fault(page: str, blocks: Iterable[str]) -> str:
 # ---- All of it -----------------------------------------------------------------------------------
 
 
-def lesson_fault(name: str, built: str) -> str:
-    """What is wrong with the page of a lesson, or nothing."""
+def page_fault(name: str, built: str) -> str:
+    """What is wrong with the page of a lesson, or with the guide, or nothing."""
     page = text_of(f"{name}.md")
-    return blocks_fault(without_words(page), lesson_blocks(built, name, page))
-
-
-def guide_fault(built: str) -> str:
-    """What is wrong with the guide, or nothing."""
-    return blocks_fault(without_words(text_of(f"{GUIDE}.md")), guide_blocks(built))
+    blocks = guide_blocks(built) if name == GUIDE else lesson_blocks(built, name, page)
+    return blocks_fault(without_words(page), blocks)
 
 
 def session_fault(name: str, over_a_trace: bool, built: str) -> str:
     """What is wrong with the report of a session, or nothing."""
     script = f"{name}.script"
-    if over_a_trace:
-        replies = report_of(loaded(built, text_of(f"{name}.trace"), text_of(script)))
-    else:
-        replies = report(built, "run", script)
+    replies = report_over(built, text_of(f"{name}.trace"), script) if over_a_trace else report(built, "run", script)
     wanted = text_of(f"{name}.report")
     pairs = zip([*lines_of(replies), ""], [*lines_of(wanted), ""])
     wrong = (f"the reply is `{reply}`, and its report has `{said}`" for reply, said in pairs if reply != said)
@@ -314,9 +283,8 @@ def session_fault(name: str, over_a_trace: bool, built: str) -> str:
 
 def rows() -> program.Rows:
     """Each lesson, the guide and each session."""
-    lessons = [(name, functools.partial(lesson_fault, name)) for name in LESSONS]
-    sessions = [(name, functools.partial(session_fault, name, is_over)) for name, is_over in SESSIONS.items()]
-    return [*lessons, (GUIDE, guide_fault), *sessions]
+    pages = [(name, functools.partial(page_fault, name)) for name in (*LESSONS, GUIDE)]
+    return pages + [(name, functools.partial(session_fault, name, is_over)) for name, is_over in SESSIONS.items()]
 
 
 def main() -> int:

@@ -88,7 +88,7 @@ def is_example(rows: Rows, name: str, before: str | None) -> str:
 def is_rehearsed(lines: list[str]) -> str:
     """What is wrong with a block of a command line and what it writes, or of a trace alone, or
     nothing."""
-    stored = rehearsals.STORED.read_text(encoding="utf-8")
+    stored = "".join(row.wanted for row in rehearsals.stored_rows())
     head = [lines[0], "  status: 0"] if lines[0].startswith("lcrqdb ") else []
     wanted = "\n".join(head + [OUTPUT + line for line in lines[len(head[:1]):]]) + "\n"
     return "" if wanted in stored else "it is not in the stored text of rehearsals"
@@ -398,7 +398,7 @@ def check_links() -> int:
 def check_commands() -> int:
     """Prints what each list of commands has more or less than the manual's table of lines; returns the
     exit status."""
-    faults = [f"{name}: {fault}" for name, fault in command_rows.lacking() if fault]
+    faults = [f"{name}: {fault}" for name, fault in command_rows.list_faults() if fault]
     for fault in faults:
         print(f"WRONG {fault}")
     if not faults:

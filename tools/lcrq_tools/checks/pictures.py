@@ -135,7 +135,7 @@ def link_of(page: str, name: str) -> str:
 
 def moment_fault(svg: str, arguments: argparse.Namespace) -> str:
     """The first thing that is wrong with a moment, or nothing."""
-    drawn = runs.read(svg)
+    drawn = runs.Drawn(svg)
     if not drawn.title or "Segment 0.0" not in drawn.about:
         return "it has no title, or its description lacks segments"
     return runs.labels_fault(drawn) or moments.faults_of(svg, arguments)
@@ -262,10 +262,10 @@ def drawn_fault(chance: random.Random, words: list[str], viewers: list[int]) -> 
     records = picture.records_of(session)
     options = options_of(chance, [Step.read(record) for record in records], session.live)
     arguments = picture.parser().parse_args([*words, *options])
-    run = runs.run_of(arguments, session, records)
+    run = runs.Run(arguments, session, records)
     run.viewers = viewers
     try:
-        fault = runs.faults_of(picture.drawn_of(arguments)[0], run, session)
+        fault = runs.faults_of(picture.drawn_of(arguments)[0], run)
     except Fault as refusal:
         fault = "" if is_right(refusal, run) else str(refusal)
     return f"{' '.join(options)}: {fault}" if fault else ""
@@ -297,7 +297,7 @@ def asked_moment_fault(seed: int, folder: Path, given: argparse.Namespace) -> st
     arguments = moment.parser().parse_args([*asked.words, "--line", str(line)])
     svg = moment.drawn_of(arguments)[0]
     viewer, text = asked.calls[line - 1]
-    drawn, where = runs.read(svg), f"after line {line}, viewer {viewer}, {text}: "
+    drawn, where = runs.Drawn(svg), f"after line {line}, viewer {viewer}, {text}: "
     said = [it for _, it in drawn.texts if it.startswith(where) or it == f"viewer {viewer}, who asked the last line"]
     if len(said) < 2 or where not in drawn.title or runs.marks_in(svg) != [viewer, viewer]:
         return f"line {line}: it says {said} and has the marks of {runs.marks_in(svg)}, and viewer {viewer} asked it"

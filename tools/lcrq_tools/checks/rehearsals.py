@@ -2,17 +2,16 @@
 
     python3 tools/check.py rehearsals [--program P]
 
-A row is a command line, what is on standard input, and how many bytes standard output takes before
-it fails. Where one opens a file, standard input has another script, so that mixing them up shows.
-Scripts, traces and the stored text are in `rehearsed/`, and each row runs in a copy of it. The text has
-the words, the status, and what is then on the two streams and in the files of replies that `view --live`
-writes, line by line; `FORMS` in a help stands for that constant of rd_script. It was checked by hand
-against the table of control points and the manual. It differs if the program ignores an option, a file
-or a line, or exchanges two commands, faults, streams or statuses.
+A row of the stored text, `rehearsed/stdout`, has a command line, what is on standard input, and, as `room`, how
+many bytes standard output takes before it fails, if it does. Then it has the status, and what is on the two
+streams and in the files of replies that `view --live` writes, line by line; `FORMS` in a help stands for that
+constant of rd_script. Where a row opens a file, standard input has another script, so that mixing them up shows.
+Scripts and traces are in `rehearsed/`, and each row runs in a copy of it. What comes of a row was checked by hand
+against the table of control points and the manual. It differs if the program ignores an option, a file or a line,
+or exchanges two commands, faults, streams or statuses.
 
-Each row runs with each build of the program that is there: that of LLVM and, beside it, that of
-Rattle's own compiler. The status is 1 if a row is another one. Only Python's standard library is
-used.
+Each row runs with each build of the program that is there: that of LLVM and, beside it, that of Rattle's own
+compiler. The status is 1 if a row is another one. Only Python's standard library is used.
 """
 
 import functools
@@ -42,63 +41,25 @@ class Rehearsal(NamedTuple):
     words: str  # of the command line after the program's name
     given: str  # on standard input
     room: int | None = None  # how many bytes standard output takes before it fails, if it does
+    wanted: str = ""  # what the stored text has of it, without what is given
 
 
-REHEARSALS = [
-    Rehearsal("run two-actors.script --ring 2 --actors 2 --trace", "len\n"),
-    Rehearsal("run two-actors.script", "len\n"),
-    Rehearsal("run -", "enq 1 7\ngo 1\nlen\nhello\n"),
-    Rehearsal("run - --trace", "enq 1 7\ngo 1\n"),
-    Rehearsal("run closed-ring.script --ring 2", "len\n"),
-    Rehearsal("load begun.trace", "len\nstep 2\ngo 1\n"),
-    Rehearsal("load half.trace", "len\n"),
-    Rehearsal("load refused.trace", "len\n"),
-    Rehearsal("run - --trace", "enq 1 7\ngo 1\nmark here\nundo\n"),
-    Rehearsal("load whole.trace", "len\nmarkat 1\ngo 1\nundo\ngoto here\nshow cell 0.0 1\n"),
-    Rehearsal("load whole.trace --trace", ""),
-    Rehearsal("load --trace begun.trace", "go 1\nmark here\nundo\n"),
-    Rehearsal("load flawed.trace", "len\n"),
-    Rehearsal("load marked.trace", "len\n"),
-    Rehearsal("load undone.trace", "len\n"),
-    Rehearsal("load mixed.trace", "len\n"),
-    Rehearsal("run missing.script", "len\n"),
-    Rehearsal("load missing.trace", "len\n"),
-    Rehearsal("run two-actors.script --ring 3", "len\n"),
-    Rehearsal("run --help", "len\n"),
-    Rehearsal("load --help", "len\n"),
-    Rehearsal("view --help", "len\n"),
-    Rehearsal("run two-actors.script", "", 7),
-    Rehearsal("run - --trace", "deq 1\n", 15),
-    Rehearsal("view questions.script question.script", "len\n"),
-    Rehearsal("view faulty.script question.script --ring 2 --actors 2", "len\n"),
-    Rehearsal("view question.script missing.script", "len\n"),
-    Rehearsal("view question.script --ring 3", "len\n"),
-    Rehearsal("view question.script", "", 12),
-    Rehearsal("view faulty.script --start begun.trace --history --trace", "len\n"),
-    Rehearsal("view questions.script --history", "len\n"),
-    Rehearsal("view questions.script --history --start whole.trace", "len\n"),
-    Rehearsal("view faulty.script --trace --ring 2 --actors 2", "len\n"),
-    Rehearsal("view question.script --start flawed.trace", "len\n"),
-    Rehearsal("view missing.script --start half.trace", "len\n"),
-    Rehearsal("view missing.script --start begun.trace", "len\n"),
-    Rehearsal("view question.script --start missing.trace --history", "len\n"),
-    Rehearsal("view question.script --start begun.trace --ring 2", "len\n"),
-    Rehearsal("view question.script --actors 2 --start begun.trace", "len\n"),
-    Rehearsal("view --live questions.script", "len\n"),
-    Rehearsal("view --live faulty.script --history --trace --ring 2 --actors 2", "len\n"),
-    Rehearsal("view question.script --live --start begun.trace --history", "len\n"),
-    Rehearsal("view --live missing.script questions.script", "len\n"),
-    Rehearsal("view --live missing.script --start half.trace", "len\n"),
-    Rehearsal("view --live questions.script", "len\n", 12),
-    Rehearsal("view --live question.script", "len\n", 0),
-    Rehearsal("view --live question.script questions.script question.script", "len\n"),
-    Rehearsal("view --live questions.script questions.script.replies", "len\n"),
-    Rehearsal("view question.script question.script.replies", "len\n"),
-    Rehearsal("--version", "", 0),
-    # the most viewers that there may be, and one too many
-    Rehearsal("view" + " question.script" * 64, ""),
-    Rehearsal("view" + " question.script" * 65, ""),
-]
+def rehearsals_of(stored: str) -> list[Rehearsal]:
+    """The rows of the stored text."""
+    rows = []
+    for part in re.split(r"(?<=\n)(?=lcrqdb )", stored):
+        given = "".join(re.findall(r"^  input\|(.*\n)", part, re.MULTILINE))
+        room = re.search(r"^  room: ([0-9]+)\n", part, re.MULTILINE)
+        wanted = re.sub(r"^  (?:input\||room: ).*\n", "", part, flags=re.MULTILINE)
+        words = part.partition("\n")[0].removeprefix("lcrqdb ")
+        rows.append(Rehearsal(words, given, int(room[1]) if room else None, wanted))
+    return rows
+
+
+def stored_rows() -> list[Rehearsal]:
+    """The rows of the stored text that is there."""
+    return rehearsals_of(STORED.read_bytes().decode())
+
 
 # ---- Runs ----------------------------------------------------------------------------------------
 
@@ -109,7 +70,7 @@ def limit_files(most: int) -> None:
     resource.setrlimit(resource.RLIMIT_FSIZE, (most, most))
 
 
-def ended(built: str, row: Rehearsal, folder: Path) -> Ended:
+def end_of(built: str, row: Rehearsal, folder: Path) -> Ended:
     """What a row gives in a folder by this build, which is called `lcrqdb` whatever its file is. An
     output with little room is a file; standard error is always a pipe, which has no limit."""
     words, given = ["lcrqdb", *row.words.split(" ")], row.given.encode()
@@ -117,17 +78,17 @@ def ended(built: str, row: Rehearsal, folder: Path) -> Ended:
         return program.run(words, given, cwd=folder, executable=built)
     with tempfile.TemporaryFile() as output:
         limit = functools.partial(limit_files, row.room)
-        got = program.run(words, given, stdout=output, cwd=folder, preexec_fn=limit, executable=built)
+        ended = program.run(words, given, stdout=output, cwd=folder, preexec_fn=limit, executable=built)
         output.seek(0)
-        return got._replace(output=output.read())
+        return ended._replace(output=output.read())
 
 
-def ended_apart(built: str, row: Rehearsal) -> tuple[Ended, dict[str, str]]:
+def end_in_copy(built: str, row: Rehearsal) -> tuple[Ended, dict[str, str]]:
     """What a row gives in a copy of the folder, and the texts that are then in files of replies."""
     with tempfile.TemporaryDirectory() as name:
         folder = Path(shutil.copytree(REHEARSED, Path(name) / "rehearsed"))
-        got = ended(built, row, folder)
-        return got, {path.name: path.read_text(encoding="ascii") for path in sorted(folder.glob("*.replies"))}
+        ended = end_of(built, row, folder)
+        return ended, {path.name: path.read_text(encoding="ascii") for path in sorted(folder.glob("*.replies"))}
 
 
 # ---- The stored text -----------------------------------------------------------------------------
@@ -142,39 +103,31 @@ def shown_stream(name: str, taken: str) -> str:
     return lines if taken.endswith("\n") else f"{lines}  {name}: no line feed at the end\n"
 
 
-def shown(row: Rehearsal, got: Ended, replies: dict[str, str], forms: str) -> str:
+def shown_row(row: Rehearsal, ended: Ended, replies: dict[str, str], forms: str) -> str:
     """What comes of a row, as the stored text has it, with the texts of files of replies by their names.
     `FORMS` stands for these forms."""
-    streams = {"output": got.output.decode(), "errors": got.errors} | replies
+    streams = {"output": ended.output.decode(), "errors": ended.errors} | replies
     texts = (shown_stream(name, taken.replace(forms, FORMS)) for name, taken in streams.items())
-    return "".join([f"lcrqdb {row.words}\n", f"  status: {got.status}\n", *texts])
-
-
-def parts_of(stored: str, count: int) -> list[str]:
-    """So many parts of the stored text, each of a command line. The last one has what is left over,
-    and parts that are missing are empty."""
-    parts = re.split(r"(?<=\n)(?=lcrqdb )", stored, maxsplit=count - 1)
-    return parts + [""] * (count - len(parts))
+    return "".join([f"lcrqdb {row.words}\n", f"  status: {ended.status}\n", *texts])
 
 
 def difference(got: str, wanted: str) -> str:
     """The first line in which two texts differ, or nothing."""
     pairs = itertools.zip_longest(lines_of(got), lines_of(wanted), fillvalue="nothing more")
-    lines = (f"`{it}`, and stored is `{other}`" for it, other in pairs if it != other)
+    lines = (f"`{line}`, and stored is `{other}`" for line, other in pairs if line != other)
     return "" if got == wanted else next(lines, "the stored text has no line feed at the end")
 
 
-def row_fault(row: Rehearsal, wanted: str, built: str) -> str:
+def row_fault(row: Rehearsal, built: str) -> str:
     """What is wrong with a row, or nothing."""
     forms = command_rows.texts_of(command_rows.KEYWORDS, FORMS)[0]
-    return difference(shown(row, *ended_apart(built, row), forms), wanted)
+    return difference(shown_row(row, *end_in_copy(built, row), forms), row.wanted)
 
 
 def rows() -> program.Rows:
-    """Each command line with its part of the stored text."""
-    parts = parts_of(STORED.read_bytes().decode(), len(REHEARSALS))
-    names = (f"{number}: {textwrap.shorten(row.words, SHOWN)}" for number, row in enumerate(REHEARSALS, 1))
-    return [(name, functools.partial(row_fault, row, part)) for name, row, part in zip(names, REHEARSALS, parts)]
+    """Each command line."""
+    names = ((f"{number}: {textwrap.shorten(row.words, SHOWN)}", row) for number, row in enumerate(stored_rows(), 1))
+    return [(name, functools.partial(row_fault, row)) for name, row in names]
 
 
 def main() -> int:

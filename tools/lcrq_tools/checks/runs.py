@@ -12,7 +12,6 @@ import json
 import re
 import tempfile
 from collections.abc import Sequence
-from dataclasses import dataclass, field
 from pathlib import Path
 from xml.etree import ElementTree
 from xml.etree.ElementTree import Element
@@ -31,33 +30,6 @@ SHADE = re.compile(r"M(\d+) (\d+)(a6 6|h12).*V(\d+)(a6 6|h-12).*z")
 Box = tuple[float, float, float, float]  # left, top, right, bottom
 
 # ---- What a picture has --------------------------------------------------------------------------
-
-
-@dataclass
-class Drawn:
-    """A picture as its elements say it."""
-
-    rows: list[dict[int, bool]]  # of each row its dots: the lane's position, and whether it is filled
-    names: list[str]  # what is at the left of each row
-    downs: list[float]  # how far down each row is
-    texts: list[tuple[Box, str]]  # the boxes of all labels, each with its text
-    headings: list[list[moments.Label]]  # those of each part: where each is, and its text
-    bands: list[tuple[float, float, bool]]  # from where to where each is, and whether its frame is broken
-    shades: list[tuple[int, int, int]]  # the lane's position, from where, to where
-    bars: list[Box]
-    breaks: list[float]  # how far down each is
-    starts: list[tuple[float, str]]  # the labels of the row before the first step, and where each is
-    size: tuple[float, float]
-    title: str
-    about: str
-    marked: dict[str, set[int]]  # the rows that are marked, from 1 on, by the kind of mark
-    viewers: list[int]  # of each row the viewer whose mark it has; 0 without one
-    legend: list[int]  # the viewers whose marks it has
-
-    def actors(self) -> dict[int, float]:
-        """The actors that have lanes, from left to right, and where."""
-        named = [(text, x) for x, _, text in self.headings[0] if text.startswith("actor ")]
-        return {int(text.split(" ")[1]): x for text, x in named}
 
 
 def box_of(text: Element) -> Box:
@@ -93,12 +65,13 @@ def shade_of(path: Element) -> tuple[int, int, int]:
 
 
 def marks_of(root: Element, downs: list[float]) -> dict[str, set[int]]:
-    """The rows that are marked by each kind of mark; by a bar the first and the last that it has."""
+    """The rows that are marked, from 1 on, by the kind of mark; by a bar the first and the last that it has."""
     marked: dict[str, set[int]] = {}
-    for rect in (it for group in groups_of(root, "asked", "row") for it in group.iter(f"{SVG}rect") if it.get("class")):
+    for rect in (rect for group in groups_of(root, "asked", "row") for rect in group.iter(f"{SVG}rect")):
         _, top, _, bottom = frame_of(rect)
-        inside = [at for at, down in enumerate(downs, 1) if top < down < bottom]
-        marked.setdefault(rect.attrib["class"], set()).update(inside)
+        inside = [number for number, down in enumerate(downs, 1) if top < down < bottom]
+        marked.setdefault(rect.get("class", ""), set()).update(inside)
+    marked.pop("", None)  # those that mark nothing
     if "bar" in marked:
         marked["bar"] = {min(marked["bar"]), max(marked["bar"])}
     return marked
@@ -121,78 +94,74 @@ def marks_in(svg: str) -> list[int]:
     return viewers_in(ElementTree.fromstring(svg))
 
 
-def read(svg: str) -> Drawn:
-    """What a picture has."""
-    root = ElementTree.fromstring(svg)
-    rows = groups_of(root, "row")
-    dots = [[dot_of(it) for it in row if it.get("class") in ("wrote", "read", "lost")] for row in rows]
-    downs = [row[0][1] for row in dots]
-    headings = [moments.labels_of(group) for group in groups_of(root, "headings")]
-    bands = [rect for group in groups_of(root, "bands") for rect in group]
-    return Drawn(
-        rows=[{round(x): filled for x, _, filled in row} for row in dots],
-        names=[row.findtext(f"{SVG}text", "") for row in rows],
-        downs=downs,
-        texts=[(box_of(text), text.text or "") for text in root.iter(f"{SVG}text")],
-        headings=headings,
-        bands=[(*frame_of(band)[::2], band.get("stroke-dasharray") is not None) for band in bands],
-        shades=[shade_of(path) for path in root.iter(f"{SVG}path") if path.get("class") == "call"],
-        bars=[frame_of(rect) for rect in root.findall(f"{SVG}g[@class='asked']/{SVG}rect[@class='bar']")],
-        breaks=[float(group.findall(f"{SVG}line")[0].attrib["y1"]) for group in groups_of(root, "break")],
-        starts=[(x, text) for row in groups_of(root, "start") for x, _, text in moments.labels_of(row)],
-        size=(float(root.attrib["width"]), float(root.attrib["height"])),
-        title=root.findtext(f"{SVG}title", ""),
-        about=root.findtext(f"{SVG}desc", ""),
-        marked=marks_of(root, downs),
-        viewers=[max(viewers_in(row), default=0) for row in rows],
-        legend=[it for group in groups_of(root, "legend") for it in viewers_in(group)],
-    )
+class Drawn:
+    """A picture as its elements say it."""
+
+    def __init__(self, svg: str) -> None:
+        root = ElementTree.fromstring(svg)
+        rows = groups_of(root, "row")
+        dots = [[dot_of(mark) for mark in row if mark.get("class") in ("wrote", "read", "lost")] for row in rows]
+        bands = [rect for group in groups_of(root, "bands") for rect in group]
+        bars = root.findall(f"{SVG}g[@class='asked']/{SVG}rect[@class='bar']")
+        breaks = (group.findall(f"{SVG}line")[0] for group in groups_of(root, "break"))
+        calls = (path for path in root.iter(f"{SVG}path") if path.get("class") == "call")
+        # of each row its dots: the lane's position, and whether it is filled
+        self.rows = [{round(x): is_filled for x, _, is_filled in row} for row in dots]
+        self.names = [row.findtext(f"{SVG}text", "") for row in rows]  # what is at the left of each row
+        self.downs = [row[0][1] for row in dots]  # how far down each row is
+        # the boxes of all labels, each with its text
+        self.texts = [(box_of(text), text.text or "") for text in root.iter(f"{SVG}text")]
+        # those of each part: where each is, and its text
+        self.headings = [moments.labels_of(group) for group in groups_of(root, "headings")]
+        # from where to where each is, and whether its frame is broken
+        self.bands = [(*frame_of(band)[::2], band.get("stroke-dasharray") is not None) for band in bands]
+        self.shades = [*map(shade_of, calls)]  # the lane's position, from where, to where
+        self.bars = [*map(frame_of, bars)]
+        self.breaks = [float(line.attrib["y1"]) for line in breaks]  # how far down each is
+        # the labels of the row before the first step, and where each is
+        self.starts = [(x, text) for row in groups_of(root, "start") for x, _, text in moments.labels_of(row)]
+        self.size = float(root.attrib["width"]), float(root.attrib["height"])
+        self.title, self.about = root.findtext(f"{SVG}title", ""), root.findtext(f"{SVG}desc", "")
+        self.marked = marks_of(root, self.downs)
+        self.viewers = [max(viewers_in(row), default=0) for row in rows]  # whose mark each row has; 0 without one
+        self.legend = [viewer for group in groups_of(root, "legend") for viewer in viewers_in(group)]
+        # the actors that have lanes, from left to right, and where
+        headings = self.headings[0] if self.headings else []
+        self.actors = {int(text.split(" ")[1]): x for x, _, text in headings if text.startswith("actor ")}
 
 
 # ---- What it should have ---------------------------------------------------------------------------
 
 
-@dataclass
 class Run:
-    """A run, of which some steps are to be drawn."""
+    """A run, of which a command line draws some steps."""
 
-    arguments: argparse.Namespace
-    live: int
-    ring: int
-    start: moments.Trace  # that of the trace; nothing over a fresh world
-    records: list[str]
-    steps: list[dependence.Step]
-    viewers: list[int] = field(default_factory=list)  # of each step of a history, who asked it; 0 of the start's
-
-    def first(self) -> int:
-        """The first step that may be drawn."""
-        return self.arguments.first or 1
-
-    def last(self) -> int:
-        """The last step that may be drawn."""
-        return self.arguments.last or len(self.steps)
-
-    def actors(self) -> list[int]:
-        """The actors that are chosen."""
-        return [int(actor) for text in self.arguments.of_actors or [] for actor in text.split(",")]
-
-    def places(self) -> list[str]:
-        """The places that are chosen."""
-        return [place.strip() for text in self.arguments.places or [] for place in text.split(",")]
+    def __init__(self, arguments: argparse.Namespace, session: figure.Session, records: list[str]) -> None:
+        trace = json.loads(Path(arguments.trace).read_text(encoding="utf-8")) if arguments.trace else {}
+        self.arguments, self.session, self.live, self.records = arguments, session, session.live, records
+        self.ring = trace.get("ring") or int(arguments.ring or 4)
+        self.start: moments.Trace = trace.get("start", {})  # that of the trace; nothing over a fresh world
+        self.steps = [dependence.step_of(record, self.ring) for record in records]
+        self.first, self.last = arguments.first or 1, arguments.last or len(records)  # that may be drawn
+        # the actors and the places that are chosen
+        self.actors = [int(actor) for text in arguments.of_actors or [] for actor in text.split(",")]
+        self.places = [place.strip() for text in arguments.places or [] for place in text.split(",")]
+        self.busy = self.busy_before()
+        self.viewers: list[int] = []  # of each step of a history, who asked it; 0 of the start's
 
     def drawn(self) -> list[int]:
         """The numbers of the steps that are drawn."""
-        window = range(self.first(), self.last() + 1)
-        if not self.actors() and not self.places():
+        window = range(self.first, self.last + 1)
+        if not self.actors and not self.places:
             return [*window]
-        chosen = {f"actor {actor}" for actor in self.actors()}
-        chosen.update(name for place in self.places() for name in dependence.names(place, self.ring))
+        chosen = {f"actor {actor}" for actor in self.actors}
+        chosen.update(name for place in self.places for name in dependence.names(place, self.ring))
         return [number for number in window if not chosen.isdisjoint(self.steps[number - 1].touched)]
 
-    def busy(self) -> list[dict[int, str]]:
+    def busy_before(self) -> list[dict[int, str]]:
         """The calls of the actors that are in one before each step, and last after all of them."""
         given = enumerate(self.start.get("actors", []), 1)
-        now = {actor: " ".join(map(str, it["op"])) for actor, it in given if it["op"] is not None}
+        now = {actor: " ".join(map(str, record["op"])) for actor, record in given if record["op"] is not None}
         stands = [dict(now)]
         for step in self.steps:
             word, actor, *value = step.line.split(" ")
@@ -205,24 +174,16 @@ class Run:
 
     def busy_at_start(self) -> dict[int, str]:
         """The calls of the actors that are in one before the first step, where a row has that."""
-        has_row = self.first() > 1 or "actors" in self.start
-        return self.busy()[self.first() - 1] if has_row else {}
-
-
-def run_of(arguments: argparse.Namespace, session: figure.Session, records: list[str]) -> Run:
-    """The run of a session, of which a command line draws some steps."""
-    trace = json.loads(Path(arguments.trace).read_text(encoding="utf-8")) if arguments.trace else {}
-    ring = trace.get("ring") or int(arguments.ring or 4)
-    steps = [dependence.step_of(record, ring) for record in records]
-    return Run(arguments, session.live, ring, trace.get("start", {}), records, steps)
+        has_row = self.first > 1 or "actors" in self.start
+        return self.busy[self.first - 1] if has_row else {}
 
 
 # ---- Words ----------------------------------------------------------------------------------------
 
 
-def meet(one: Box, other: Box) -> bool:
+def overlap(box: Box, other: Box) -> bool:
     """Whether two boxes overlap."""
-    return one[0] < other[2] and other[0] < one[2] and one[1] < other[3] and other[1] < one[3]
+    return box[0] < other[2] and other[0] < box[2] and box[1] < other[3] and other[1] < box[3]
 
 
 def labels_fault(drawn: Drawn) -> str:
@@ -231,14 +192,12 @@ def labels_fault(drawn: Drawn) -> str:
     for (left, top, right, bottom), text in drawn.texts:
         if left < 0 or top < 0 or right > width or bottom > height:
             return f"the label {text} is cut off"
-    for (one, text), (other, more) in itertools.combinations(drawn.texts, 2):
-        if meet(one, other):
-            return f"the labels {text} and {more} overlap"
+    for (box, text), (other_box, other) in itertools.combinations(drawn.texts, 2):
+        if overlap(box, other_box):
+            return f"the labels {text} and {other} overlap"
     under = [*drawn.bars, *((x - 6, top, x + 6, bottom) for x, top, bottom in drawn.shades)]
-    for (box, text), mark in itertools.product(drawn.texts, under):
-        if meet(box, mark):
-            return f"the label {text} is on a bar or on the shade of a call"
-    return ""
+    marked = (text for (box, text), mark in itertools.product(drawn.texts, under) if overlap(box, mark))
+    return next((f"the label {text} is on a bar or on the shade of a call" for text in marked), "")
 
 
 def words_fault(drawn: Drawn, run: Run) -> str:
@@ -249,7 +208,7 @@ def words_fault(drawn: Drawn, run: Run) -> str:
         return "it has a label without words"
     if drawn.about.count("actor ") < len(drawn.rows):
         return "its description lacks steps"
-    for text in (*run.places(), *map(str, run.actors())):
+    for text in (*run.places, *map(str, run.actors)):
         if not all(re.search(rf" {re.escape(text)}\b", words) for words in (drawn.title, drawn.about)):
             return f"its title or its description doesn't say that {text} is chosen"
     texts = [text for _, text in drawn.texts]
@@ -260,7 +219,7 @@ def words_fault(drawn: Drawn, run: Run) -> str:
         "steps are left out": bool(drawn.breaks),
         "orange frame around a number: could be undone alone now": run.arguments.free,
     }
-    return next((f"its legend has {it}, or lacks it" for it in shown if shown[it] != (it in texts)), "")
+    return next((f"its legend has {words}, or lacks it" for words in shown if shown[words] != (words in texts)), "")
 
 
 # ---- Rows -----------------------------------------------------------------------------------------
@@ -269,14 +228,14 @@ def words_fault(drawn: Drawn, run: Run) -> str:
 def rows_fault(drawn: Drawn, run: Run) -> str:
     """What is wrong with the choice of rows, the breaks between them and the headings, or nothing."""
     numbers, downs = run.drawn(), drawn.downs
-    if drawn.names != [str(it) if it <= run.live else "undone" for it in numbers]:
+    if drawn.names != [str(number) if number <= run.live else "undone" for number in numbers]:
         return f"it has the rows {drawn.names}, wanted {numbers}"
     if downs != sorted(set(downs)):
         return "its rows are not below each other"
-    ends = [(run.first() - 1, 0.0), *zip(numbers, downs), (run.last() + 1, drawn.size[1])]
-    for (one, upper), (other, lower) in itertools.pairwise(ends):
-        if (other > one + 1) != any(upper < it < lower for it in drawn.breaks):
-            return f"between the steps {one} and {other} it has a break, or lacks it"
+    ends = [(run.first - 1, 0.0), *zip(numbers, downs), (run.last + 1, drawn.size[1])]
+    for (number, upper), (later, lower) in itertools.pairwise(ends):
+        if (later > number + 1) != any(upper < down < lower for down in drawn.breaks):
+            return f"between the steps {number} and {later} it has a break, or lacks it"
     return headings_fault(drawn)
 
 
@@ -294,16 +253,13 @@ def headings_fault(drawn: Drawn) -> str:
     return ""
 
 
-def share(one: dict[int, bool], other: dict[int, bool]) -> bool:
-    """Whether two rows share a lane on which one of their dots is filled."""
-    return any(filled or other[lane] for lane, filled in one.items() if lane in other)
-
-
 def dots_fault(drawn: Drawn, run: Run) -> str:
-    """Where the dots of a picture and the dependence of its steps differ, or nothing."""
-    for (one, dots), (other, more) in itertools.combinations(zip(run.drawn(), drawn.rows), 2):
-        if share(dots, more) != dependence.depend(run.steps[one - 1], run.steps[other - 1]):
-            return f"steps {one} and {other} look as if they did or did not depend"
+    """Where the dots of a picture and the dependence of its steps differ, or nothing. Two rows share a lane on which
+    one of their dots is filled where the two steps depend on each other."""
+    for (number, dots), (later, others) in itertools.combinations(zip(run.drawn(), drawn.rows), 2):
+        share = any(is_filled or others[lane] for lane, is_filled in dots.items() if lane in others)
+        if share != dependence.depend(run.steps[number - 1], run.steps[later - 1]):
+            return f"steps {number} and {later} look as if they did or did not depend"
     return ""
 
 
@@ -316,10 +272,10 @@ def marks_fault(drawn: Drawn, run: Run) -> str:
     if roll:
         wanted = {"goes": set(dependence.closure(steps, roll))}
     if run.arguments.free:
-        wanted["lone"] = {it for it in range(1, run.live + 1) if not dependence.first_dependant(steps, it)}
-    at = {number: row for row, number in enumerate(run.drawn(), 1)}
-    hidden = len(wanted.get("goes", set()) - {*at})
-    wanted = {kind: {at[it] for it in marked if it in at} for kind, marked in wanted.items()}
+        wanted["lone"] = {step for step in range(1, run.live + 1) if not dependence.first_dependant(steps, step)}
+    rows = {number: row for row, number in enumerate(run.drawn(), 1)}
+    hidden = len(wanted.get("goes", set()) - {*rows})
+    wanted = {kind: {rows[step] for step in marked if step in rows} for kind, marked in wanted.items()}
     wanted = {kind: marked for kind, marked in wanted.items() if marked}
     if drawn.marked != wanted:
         return f"it marks {drawn.marked}, wanted {wanted}"
@@ -332,9 +288,9 @@ def bar_fault(drawn: Drawn) -> str:
     """What is wrong with the lane of a bar or with what is said of it, or nothing."""
     if not drawn.bars:
         return ""
-    one, other = (drawn.rows[at - 1] for at in sorted(drawn.marked["bar"]))
+    first, last = (drawn.rows[row - 1] for row in sorted(drawn.marked["bar"]))
     lane = {round((left + right) / 2) for left, _, right, _ in drawn.bars}.pop()
-    if lane not in one or lane not in other or not (one[lane] or other[lane]):
+    if lane not in first or lane not in last or not (first[lane] or last[lane]):
         return "its bar is on a lane that the two steps don't share"
     is_actor = any(x == lane and text.startswith("actor ") for x, _, text in drawn.headings[0])
     said = [text for _, text in drawn.texts if text.startswith("orange bar: ")]
@@ -355,7 +311,7 @@ def viewers_fault(drawn: Drawn, run: Run) -> str:
     if drawn.legend != named or words != [f"viewer {viewer}" for viewer in named]:
         return f"its legend has the viewers {drawn.legend}, and says {words}"
     said = re.findall(r"(?:\b\d+|undone): (?:viewer (\d+), )?actor ", drawn.about)
-    return "" if [int(it or 0) for it in said] == wanted else f"its description has the viewers {said}"
+    return "" if [int(viewer or 0) for viewer in said] == wanted else f"its description has the viewers {said}"
 
 
 # ---- Lanes ----------------------------------------------------------------------------------------
@@ -365,12 +321,12 @@ def actors_fault(drawn: Drawn, run: Run) -> str:
     """Which actor has a lane and should have none, or the other way round, or nothing."""
     wanted = {int(run.steps[number - 1].line.split(" ")[1]) for number in run.drawn()}
     busy = run.busy_at_start()
-    wanted.update(set(busy) & {*run.actors()} if run.actors() or run.places() else busy)
-    lanes = drawn.actors()
+    wanted.update(set(busy) & {*run.actors} if run.actors or run.places else busy)
+    lanes = drawn.actors
     if [*lanes] != sorted(wanted):
         return f"it has the actors {[*lanes]}, wanted {sorted(wanted)}"
     for actor, x in lanes.items():
-        said = [text for at, text in drawn.starts if at == x - 9]
+        said = [text for left, text in drawn.starts if left == x - 9]
         pattern = rf"[A-Z]\d+ {busy[actor]}" if actor in busy else ""
         if not re.fullmatch(pattern, " ".join(said)):
             return f"it says that actor {actor} is at {said}, and its call is {busy.get(actor)}"
@@ -383,7 +339,7 @@ def lanes_fault(drawn: Drawn) -> str:
     names = {"qhead", "qtail", "head", "tail", "value", "safe idx", "next"}
     named = [(x, text) for x, _, text in drawn.headings[0] if text in names or text.startswith("slot ")]
     for (x, text), (after, _) in zip(named, [*named[1:], (0.0, "")]):
-        before = max((it for it, _ in named if it < x), default=0.0)
+        before = max((left for left, _ in named if left < x), default=0.0)
         beside = {"value": after, "safe idx": before}.get(text, x)
         if x not in touched and beside not in touched:
             return f"no row touches the lane {text}"
@@ -392,7 +348,7 @@ def lanes_fault(drawn: Drawn) -> str:
 
 def shades_fault(drawn: Drawn, run: Run) -> str:
     """Where a shade and the calls of its actor differ, or nothing."""
-    lanes, busy, rows = drawn.actors(), run.busy(), list(zip(run.drawn(), drawn.downs))
+    lanes, busy, rows = drawn.actors, run.busy, list(zip(run.drawn(), drawn.downs))
 
     def is_shaded(actor: int, down: float) -> bool:
         """Whether the shade of a call is on an actor's lane here."""
@@ -414,47 +370,47 @@ def segments_of(run: Run) -> set[str]:
     """The names of the segments that the steps or the start name, and of the root."""
     made = {Step.read(record).place.segment for record in run.records}
     given = enumerate(run.start.get("segments", []))
-    return {"0.0", *made, *(f"{maker}.{at}" for maker, them in given for at in range(len(them)))} - {""}
+    return {"0.0", *made, *(f"{maker}.{number}" for maker, own in given for number in range(len(own)))} - {""}
 
 
-def chain_of(run: Run, session: figure.Session) -> tuple[list[str], set[str]]:
+def chain_of(run: Run) -> tuple[list[str], set[str]]:
     """The segments in the order of their links from the root on, and all that are linked, when
     the steps are loaded as a trace."""
-    trace = moments.trace_of(session)
+    trace = moments.trace_of(run.session)
     trace |= {"events": trace["events"] + trace["undone"], "undone": []}
     names = sorted(segments_of(run))
     with tempfile.TemporaryDirectory() as folder:
         loaded = moments.Loaded(run.arguments.program, Path(folder), trace)
-        nexts = {place[5:]: reply[3:] for place, reply in loaded.about("show", [f"next {it}" for it in names]).items()}
+        nexts = dict(zip(names, (reply[3:] for reply in loaded.ask([f"show next {name}" for name in names]))))
     chain = ["0.0"]
     while nexts[chain[-1]] != "none":
         chain.append(nexts[chain[-1]])
     return chain, {*chain, *nexts.values()}
 
 
-def bands_fault(drawn: Drawn, run: Run, session: figure.Session) -> str:
+def bands_fault(drawn: Drawn, run: Run) -> str:
     """Which band is out of the chain's order, or says wrongly whether it was linked, or nothing."""
     lefts = {left: is_broken for left, _, is_broken in drawn.bands}
     headings = [(x, text.removeprefix("segment ")) for x, _, text in drawn.headings[0] if text.startswith("segment ")]
     if len(segments_of(run)) == 1:
         return "" if not any(lefts.values()) else "the root has a broken frame"
-    chain, linked = chain_of(run, session)
+    chain, linked = chain_of(run)
     names = [text.removesuffix(", never linked") for _, text in sorted(headings)]
     apart = [name for name in names if name not in linked]
     if names != [*(name for name in chain if name in names), *sorted(apart, key=names.index)]:
         return f"the segments stand in the order {names}, and are linked in the order {chain}"
     if [text for _, text in headings if text.endswith(", never linked")] != [f"{name}, never linked" for name in apart]:
         return f"it does not say which were never linked, {apart}"
-    broken = [name for (x, _), name in zip(sorted(headings), names) if lefts[max(it for it in lefts if it < x)]]
+    broken = [name for (x, _), name in zip(sorted(headings), names) if lefts[max(left for left in lefts if left < x)]]
     return "" if broken == apart else f"the frames of {broken} are broken, and {apart} were never linked"
 
 
 # ---- All of it ------------------------------------------------------------------------------------
 
 
-def faults_of(svg: str, run: Run, session: figure.Session) -> str:
+def faults_of(svg: str, run: Run) -> str:
     """The first thing that is wrong with the picture of a run or of some of its rows, or nothing."""
-    drawn = read(svg)
+    drawn = Drawn(svg)
     return (
         words_fault(drawn, run)
         or labels_fault(drawn)
@@ -466,7 +422,7 @@ def faults_of(svg: str, run: Run, session: figure.Session) -> str:
         or actors_fault(drawn, run)
         or lanes_fault(drawn)
         or shades_fault(drawn, run)
-        or bands_fault(drawn, run, session)
+        or bands_fault(drawn, run)
     )
 
 
@@ -474,6 +430,6 @@ def fault_of(svg: str, arguments: argparse.Namespace, viewers: Sequence[int] = (
     """The first thing that is wrong with a picture, by a session of its command line, or nothing. These
     viewers asked its steps, if it is of a history."""
     session = figure.Session(arguments)
-    run = run_of(arguments, session, picture.records_of(session))
+    run = Run(arguments, session, picture.records_of(session))
     run.viewers = [*viewers]
-    return faults_of(svg, run, session)
+    return faults_of(svg, run)

@@ -62,7 +62,7 @@ class Blocks(unittest.TestCase):
         rows = {"ok 12": "ok K", "ok 12 value 7": "ok K value 7", "is open 3": "is open N", "at 4 1": "at L 1"}
         rows |= {it: it for it in ("is closed 3", "refused 13 Depended 4", "ok", "at 4", "viewer 2", "history 9", "")}
         for reply, wanted in rows.items():
-            self.assertEqual(lessons.masked(reply), wanted)
+            self.assertEqual(lessons.mask_numbers(reply), wanted)
 
     def test_a_lesson_of_two_scripts_is_not_run_alone(self) -> None:
         with self.assertRaisesRegex(OSError, "nowhere-1"):

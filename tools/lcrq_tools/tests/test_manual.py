@@ -82,9 +82,9 @@ class Commands(unittest.TestCase):
                 command_rows.listed_in(wrong)
 
     def test_a_command_that_a_list_lacks_is_named(self) -> None:
-        self.assertEqual([fault for _, fault in command_rows.lacking()], ["", "", "", ""])
+        self.assertEqual([fault for _, fault in command_rows.list_faults()], ["", "", "", ""])
         with mock.patch.object(manual, "FORMS", [*manual.FORMS, "last A"]):
-            self.assertEqual([fault for _, fault in command_rows.lacking()], ["last A", "last", "last", "last"])
+            self.assertEqual([fault for _, fault in command_rows.list_faults()], ["last A", "last", "last", "last"])
 
 
 PAGE = model.PAGE.read_text(encoding="utf-8")

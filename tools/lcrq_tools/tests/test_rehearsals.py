@@ -1,5 +1,6 @@
 """What `tools/check.py rehearsals` compares with its stored text."""
 
+import re
 import shutil
 import tempfile
 import unittest
@@ -14,7 +15,7 @@ ECHO = shutil.which("echo") or "/bin/echo"
 
 def echoed(room: int | None) -> Ended:
     """What `echo` gives to a row with so much room."""
-    return rehearsals.ended(ECHO, Rehearsal("two words", "", room), rehearsals.REHEARSED)
+    return rehearsals.end_of(ECHO, Rehearsal("two words", "", room), rehearsals.REHEARSED)
 
 
 class Streams(unittest.TestCase):
@@ -32,8 +33,8 @@ class Streams(unittest.TestCase):
     def test_words_status_and_streams_are_in_order(self) -> None:
         row, got, replies = Rehearsal("run -", "len\n"), Ended(2, b"Help:\nforms\n", "no\n"), {"a.replies": "1 ok 1\n"}
         text = "lcrqdb run -\n  status: 2\n  output|Help:\n  output|FORMS\n  errors|no\n"
-        self.assertEqual(rehearsals.shown(row, got, {}, "forms"), text)
-        self.assertEqual(rehearsals.shown(row, got, replies, "forms"), f"{text}  a.replies|1 ok 1\n")
+        self.assertEqual(rehearsals.shown_row(row, got, {}, "forms"), text)
+        self.assertEqual(rehearsals.shown_row(row, got, replies, "forms"), f"{text}  a.replies|1 ok 1\n")
 
     def test_an_output_takes_what_it_has_room_for(self) -> None:
         for room, taken in ((0, b""), (5, b"two w")):
@@ -46,32 +47,34 @@ class Streams(unittest.TestCase):
     def test_files_of_replies_are_written_apart(self) -> None:
         with tempfile.NamedTemporaryFile("w", suffix=".sh", delete=False) as script:
             script.write("#!/bin/sh\nls; echo 1 ok 1 > a.replies\n")
-        path = Path(script.name)
+        script_path = Path(script.name)
         try:
-            path.chmod(0o755)
-            got, replies = rehearsals.ended_apart(script.name, Rehearsal("view --live a", ""))
+            script_path.chmod(0o755)
+            got, replies = rehearsals.end_in_copy(script.name, Rehearsal("view --live a", ""))
         finally:
-            path.unlink()
+            script_path.unlink()
         self.assertEqual(replies, {"a.replies": "1 ok 1\n"})
-        self.assertEqual(got.output.decode().split(), sorted(it.name for it in rehearsals.REHEARSED.iterdir()))
+        self.assertEqual(got.output.decode().split(), sorted(path.name for path in rehearsals.REHEARSED.iterdir()))
         self.assertFalse([*rehearsals.REHEARSED.glob("*.replies")])
 
 
 class Stored(unittest.TestCase):
     """The stored text."""
 
-    def test_each_command_line_has_a_part(self) -> None:
-        text = "lcrqdb run\n  output|lcrqdb \nlcrqdb load\nlcrqdb view\n"
-        parts = ["lcrqdb run\n  output|lcrqdb \n", "lcrqdb load\n", "lcrqdb view\n"]
-        self.assertEqual(rehearsals.parts_of(text, 3), parts)
-        self.assertEqual(rehearsals.parts_of(text, 2)[1:], ["lcrqdb load\nlcrqdb view\n"])
-        self.assertEqual(rehearsals.parts_of(text, 4)[2:], ["lcrqdb view\n", ""])
-        self.assertEqual(rehearsals.parts_of("\n" + text, 3)[0], "\n")
+    def test_a_row_has_what_is_given_and_what_comes_of_it(self) -> None:
+        comes = "  status: 0\n  output|lcrqdb \n  output|  input|a\n"
+        text = f"lcrqdb run -\n  input|len\n  input|\n  room: 7\n{comes}lcrqdb load\n{comes}lcrqdb"
+        wanted = [
+            Rehearsal("run -", "len\n\n", 7, f"lcrqdb run -\n{comes}"),
+            Rehearsal("load", "", None, f"lcrqdb load\n{comes}lcrqdb"),
+        ]
+        self.assertEqual(rehearsals.rehearsals_of(text), wanted)
 
-    def test_the_parts_have_the_words_of_the_rows(self) -> None:
-        parts = rehearsals.parts_of(rehearsals.STORED.read_text(encoding="ascii"), len(rehearsals.REHEARSALS))
-        words = [part.partition("\n")[0] for part in parts]
-        self.assertEqual(words, [f"lcrqdb {row.words}" for row in rehearsals.REHEARSALS])
+    def test_nothing_is_left_over(self) -> None:
+        rows = rehearsals.stored_rows()
+        self.assertEqual(len(rows), 52)  # as docs/GATE.md says
+        for row in rows:
+            self.assertRegex(row.wanted, rf"^lcrqdb {re.escape(row.words)}\n  status: [0-9]\n(  .*\n)+\Z")
 
     def test_the_first_other_line_is_named(self) -> None:
         self.assertEqual(rehearsals.difference("a\nb\n", "a\nb\n"), "")
