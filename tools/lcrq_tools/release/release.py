@@ -35,12 +35,14 @@ from lcrq_tools import entry, program
 from lcrq_tools.faults import Fault, Parser, say
 from lcrq_tools.options import add_program
 from lcrq_tools.program import EXAMPLES, TOP
+from lcrq_tools.release.man_page import man_page
 from lcrq_tools.release.release_pages import (
-    DOCS, HANDED_OUT, LESSONS, PORT, SCHEMA, Choice, Part, is_chosen, man_page, page_of,
+    DOCS, HANDED_OUT, LESSONS, PORT, SCHEMA, Choice, Part, is_chosen, page_of,
 )
 
 TOOLS = TOP / "tools"
 BUILD = TOOLS / "lcrq_tools" / "release"
+COMPLETION = BUILD / "lcrqdb.bash"
 INSTALLED = (TOOLS / "pyproject.toml", BUILD / "__init__.py", BUILD / "wheel.py")  # by which pip installs the tools
 PRINTED = ("guide", "lessons", "answers")  # the pages that are made as PDF
 BROWSERS = ("chromium", "chromium-browser", "google-chrome")
@@ -63,9 +65,11 @@ Nothing has to be installed to run it. In this folder:
     lcrqdb run session.script | paste session.script -
     lcrqdb run session.script | diff session.report -
 
-The last line prints nothing: the replies are as they should be. The scripts of tools/ need Python
-3.11 and nothing else; schema.py also needs its library jsonschema. They draw a run of yours, in any
-folder:
+The last line prints nothing: the replies are as they should be. In bash, source
+share/bash-completion/completions/lcrqdb to complete subcommands, options and files.
+
+The scripts of tools/ need Python 3.11 and nothing else; schema.py also needs its library
+jsonschema. They draw a run of yours, in any folder:
 
     cp session.script mine.script
     picture.py mine.script -o mine.svg
@@ -306,6 +310,7 @@ def files_of(built: str, version: str, seconds: int, choice: Choice, with_pdf: b
     if with_pdf:
         files |= {f"{name.removesuffix('html')}pdf": pdf_of(files[name]) for name in printed_of(files, choice)}
     files["share/man/man1/lcrqdb.1"] = man_page(version, seconds, choice)
+    files["share/bash-completion/completions/lcrqdb"] = COMPLETION.read_bytes()
     files |= {"bin/lcrqdb": Path(built).read_bytes(), f"docs/{SCHEMA.name}": SCHEMA.read_bytes()}
     return files | {"README": readme(version, choice, files).encode()}
 

@@ -13,12 +13,10 @@ it. A link to a page of the archive leads there, any other one becomes text.
 """
 
 import base64
-import functools
 import json
 import mimetypes
 import re
 import tempfile
-import time
 from collections.abc import Callable
 from dataclasses import dataclass
 from pathlib import Path
@@ -246,13 +244,6 @@ class Part:
         target, text = self.target_of(url), self.text_of(link)
         return {"t": "Link", "c": [attributes, text, [target, title]]} if target else span(text)
 
-    def named(self, link: Element) -> Element:
-        """A link as it is in the man page: its text, and after it the name of the page to which it
-        leads."""
-        page = (self.target_of(link["c"][2][0]) or "").partition("#")[0]
-        text = self.text_of(link)
-        return span(text if text_in(text) == page or not page else [*text, *words(f" ({page})")])
-
     def with_picture(self, image: Element) -> Element:
         """An image with its picture in it."""
         attributes, inlines, (url, title) = image["c"]
@@ -386,53 +377,3 @@ def page_of(page: str, version: str, choice: Choice, run_pages: list[str]) -> by
 def joined(links: list[Element]) -> list[Element]:
     """Links as one line of text."""
     return [it for link in links for it in (*words(", "), link)][1:]
-
-
-# ---- The man page --------------------------------------------------------------------------------
-
-COLUMNS = 70  # that pandoc gives a table of a man page
-BETWEEN = 3  # of these between two of its columns
-# no word parted and no line spread, for many are commands to type
-AS_WRITTEN: Element = {"t": "RawBlock", "c": ["man", ".nh\n.ad l"]}
-
-
-def widths_of(table: Element) -> list[float]:
-    """How wide the columns of a table are to be: as wide as their widest cell, and where that is
-    too much, the wide ones equal."""
-    head, bodies = table["c"][3], table["c"][4]
-    rows = [*head[1], *(row for body in bodies for row in body[3])]
-    widest = [max(len(text_in(cell[4])) for cell in column) for column in zip(*(row[1] for row in rows))]
-    left = COLUMNS - BETWEEN * (len(widest) - 1)
-    widths: dict[int, int] = {}
-    for count, at in enumerate(sorted(range(len(widest)), key=lambda at: widest[at])):
-        widths[at] = min(widest[at], left // (len(widest) - count))
-        left -= widths[at]
-    return [widths[at] / COLUMNS for at in range(len(widest))]
-
-
-def for_man(element: Element, part: Part) -> Element:
-    """An element of the manual as its man page has it: without links and pictures, and with its
-    parts as sections."""
-    kind = element["t"]
-    inside: Json = element.get("c")
-    if kind == "Link":
-        return part.named(element)
-    if kind == "Image":
-        return span(inside[1])
-    if kind == "Header":
-        return {"t": kind, "c": [inside[0] - 1, *inside[1:]]}
-    if kind == "Table":
-        columns = zip(inside[2], widths_of(element))
-        widths = [[align, {"t": "ColWidth", "c": width}] for (align, _), width in columns]
-        return {"t": kind, "c": [*inside[:2], widths, *inside[3:]]}
-    return element
-
-
-def man_page(version: str, seconds: int, choice: Choice) -> bytes:
-    """The manual as a man page."""
-    part = Part(choice, "manual", choice.pages()["manual"][0])
-    whole = part.document()
-    blocks: list[Element] = [AS_WRITTEN, *changed(whole["blocks"][1:], functools.partial(for_man, part=part))]
-    options = ["-f", "json", "-t", "man", "--standalone", "-M", "title=LCRQDB", "-M", "section=1"]
-    options += ["-M", f"footer=lcrqdb {version}", "-M", time.strftime("date=%Y-%m-%d", time.gmtime(seconds))]
-    return pandoc(options, json.dumps({**whole, "blocks": blocks}).encode())
