@@ -22,7 +22,7 @@ from dataclasses import dataclass
 from pathlib import Path
 from typing import Self, TypeVar
 
-from lcrq_tools.program import PIPE_BYTES, Broken, Ended
+from lcrq_tools.program import PIPE_BYTES, Broken, Ended, script_of
 
 SECONDS = 60.0  # after which what hasn't come is a fault
 PAUSE = 0.001  # between two looks for what a client can't be woken by
@@ -86,7 +86,7 @@ class Client:
 
     def take(self, end: int) -> None:
         """Takes the lines up to this number as the next ones to write."""
-        self.unsent = "".join(f"{line}\n" for line in self.lines[self.asked:end]).encode("ascii")
+        self.unsent = script_of(self.lines[self.asked:end])
         self.begun += [time.monotonic()] * (end - self.asked)
         self.asked = max(self.asked, end)
 

@@ -1,4 +1,4 @@
-"""Which steps of a run depend on which, worked out from the steps' records by the words of
+"""Works out which steps of a run depend on which, for the checks, from the steps' records by the words of
 docs/MODEL.md alone.
 
 A record is the reply to `step K`, which is read here and not by `records.py`: the checks rest on this
@@ -43,20 +43,21 @@ def step_of(record: str, ring: int) -> Step:
     return Step(line, place, touched + itself, wrote + itself, "" if reply == "-" else f" {reply}")
 
 
-def depend(one: Step, other: Step) -> bool:
+def depend(step: Step, other: Step) -> bool:
     """Whether two steps depend on each other."""
-    return not (set(one.touched).isdisjoint(other.wrote) and set(one.wrote).isdisjoint(other.touched))
+    return not (set(step.touched).isdisjoint(other.wrote) and set(step.wrote).isdisjoint(other.touched))
 
 
 def first_dependant(steps: Sequence[Step], number: int) -> int | None:
     """The number of the first later step that depends on this one, or none."""
-    return next((at for at in range(number + 1, len(steps) + 1) if depend(steps[number - 1], steps[at - 1])), None)
+    step, later = steps[number - 1], range(number + 1, len(steps) + 1)
+    return next((other for other in later if depend(step, steps[other - 1])), None)
 
 
 def last_writer(steps: Sequence[Step], place: str, ring: int) -> int | None:
     """The number of the last step that wrote this place or one that it names, or none."""
     named = set(names(place, ring))
-    return next((at for at in range(len(steps), 0, -1) if not named.isdisjoint(steps[at - 1].wrote)), None)
+    return next((number for number in range(len(steps), 0, -1) if not named.isdisjoint(steps[number - 1].wrote)), None)
 
 
 def closure(steps: Sequence[Step], number: int) -> list[int]:
@@ -65,9 +66,9 @@ def closure(steps: Sequence[Step], number: int) -> list[int]:
     taken: list[int] = []
     touched: set[str] = set()
     wrote: set[str] = set()
-    for at, step in enumerate(steps[number - 1:], number):
-        if at == number or not (touched.isdisjoint(step.wrote) and wrote.isdisjoint(step.touched)):
-            taken.append(at)
+    for later, step in enumerate(steps[number - 1:], number):
+        if later == number or not (touched.isdisjoint(step.wrote) and wrote.isdisjoint(step.touched)):
+            taken.append(later)
             touched.update(step.touched)
             wrote.update(step.wrote)
     return taken
@@ -79,16 +80,16 @@ def leads(steps: Sequence[Step]) -> list[list[int]]:
     after: list[list[int]] = [[] for _ in steps]
     writer: dict[str, int] = {}
     readers: dict[str, list[int]] = {}
-    for at, step in enumerate(steps):
+    for index, step in enumerate(steps):
         before = {writer[place] for place in step.touched if place in writer}
         before.update(reader for place in step.wrote for reader in readers.pop(place, ()))
         for place in step.touched:
             if place in step.wrote:
-                writer[place] = at
+                writer[place] = index
             else:
-                readers.setdefault(place, []).append(at)
+                readers.setdefault(place, []).append(index)
         for earlier in before:
-            after[earlier].append(at)
+            after[earlier].append(index)
     return after
 
 
@@ -98,14 +99,14 @@ def latest_first(steps: Sequence[Step]) -> list[Step]:
     after, waits = leads(steps), [0] * len(steps)
     order: list[Step] = []
     for dependants in after:
-        for at in dependants:
-            waits[at] += 1
-    free = [-at for at, count in enumerate(waits) if not count]
+        for index in dependants:
+            waits[index] += 1
+    free = [-index for index, count in enumerate(waits) if not count]
     heapq.heapify(free)
     while free:
-        at = -heapq.heappop(free)
-        order.append(steps[at])
-        for later in after[at]:
+        index = -heapq.heappop(free)
+        order.append(steps[index])
+        for later in after[index]:
             waits[later] -= 1
             if not waits[later]:
                 heapq.heappush(free, -later)

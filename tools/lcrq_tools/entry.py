@@ -65,7 +65,7 @@ def about(module: str) -> str:
 
 def has_main(module: str) -> bool:
     """Whether a module can be run, and is no part of another one."""
-    return any(isinstance(it, ast.FunctionDef) and it.name == "main" for it in parsed(module).body)
+    return any(isinstance(part, ast.FunctionDef) and part.name == "main" for part in parsed(module).body)
 
 
 def tools_in(folder: str) -> dict[str, str]:

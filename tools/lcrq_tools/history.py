@@ -10,7 +10,7 @@ import re
 from dataclasses import dataclass
 
 from lcrq_tools.faults import Fault
-from lcrq_tools.program import bytes_of, lines_of
+from lcrq_tools.program import bytes_of, lines_of, script_of
 
 MOST_VIEWERS = 64
 SHOWN = 40  # letters of a line that a fault shows
@@ -34,7 +34,7 @@ class History:
 
     def script(self) -> bytes:
         """The lines as a script."""
-        return "".join(f"{line}\n" for line in self.lines).encode("latin-1")
+        return script_of(self.lines, "latin-1")
 
 
 def read(name: str) -> History:

@@ -9,29 +9,25 @@ import re
 from collections.abc import Iterable
 
 from lcrq_tools.faults import Fault
+from lcrq_tools.markdown import QUOTED, rows_of
 from lcrq_tools.program import TOP
 
 PAGE = (TOP / "docs" / "MANUAL.md").read_text(encoding="utf-8")
 
 
-def quoted_in(head: str, column: int, behind: str = "") -> list[str]:
-    """What is quoted in this column of each table whose head begins so and that is behind a text."""
-    quoted: list[str] = []
-    is_inside = False
-    for row in PAGE.partition(behind)[2].splitlines() if behind else PAGE.splitlines():
-        is_inside = row.startswith(head) or is_inside and row.startswith("|")
-        if is_inside:
-            quoted += re.findall("`([^`]+)`", row.split("|")[column])
+def quoted_in(page: str, head: str, column: int) -> list[str]:
+    """What is quoted in this column of each table whose head begins so."""
+    quoted = [text for row in rows_of(page, head) for text in QUOTED.findall(row[column])]
     if not quoted:
         raise Fault(f"docs/MANUAL.md has no table whose head begins {head}")
     return quoted
 
 
-FORMS = quoted_in("| Line | Meaning |", 1)
-QUERIES = quoted_in("| Line | Meaning |", 1, "\n### Queries\n")
-PLACES = quoted_in("| PLACE | Is |", 1)
-ANSWERED = quoted_in("| After | Reply |", 1)
-REPLIES = {word for reply in quoted_in("| After | Reply |", 2) for word in re.findall("^[a-z]+", reply)}
+FORMS = quoted_in(PAGE, "| Line | Meaning |", 0)
+QUERIES = quoted_in(PAGE.partition("\n### Queries\n")[2], "| Line | Meaning |", 0)
+PLACES = quoted_in(PAGE, "| PLACE | Is |", 0)
+ANSWERED = quoted_in(PAGE, "| After | Reply |", 0)
+REPLIES = {word for reply in quoted_in(PAGE, "| After | Reply |", 1) for word in re.findall("^[a-z]+", reply)}
 
 
 def line_of(form: str) -> str:
@@ -48,12 +44,5 @@ def lines_beside(forms: Iterable[str], lines: Iterable[str]) -> list[str]:
 
 def refusals() -> dict[str, str]:
     """Why a line is refused and what to do, by the number of the refusal."""
-    rows: dict[str, str] = {}
-    is_inside = False
-    for row in PAGE.splitlines():
-        is_inside = row.startswith("| No | Name | Data | When |") or is_inside and row.startswith("|")
-        cells = [cell.strip().replace("`", "") for cell in row.split("|")]
-        if is_inside and cells[1].isdecimal():
-            number, name, _, when, what = cells[1:6]
-            rows[number] = f"{name}: {when}. What to do: {what}."
-    return rows
+    rows = rows_of(PAGE.replace("`", ""), "| No | Name | Data | When |")
+    return {number: f"{name}: {when}. What to do: {what}." for number, name, _, when, what in rows}

@@ -7,9 +7,11 @@ words of its own: it shares nothing with `records.py`. Only Python's standard li
 """
 
 import re
+from collections.abc import Iterator
 from dataclasses import dataclass
 
 from lcrq_tools.faults import Fault
+from lcrq_tools.markdown import blocks_of, rows_of
 from lcrq_tools.program import TOP
 
 PAGE = TOP / "docs" / "MODEL.md"
@@ -34,15 +36,13 @@ class Unreadable(Fault, ValueError):
 
 def heads_of(line: str) -> list[tuple[int, str]]:
     """The two heads in a line, each with where its column begins; nothing of any other line."""
-    found = [(it.start() - MARGIN, it[0]) for it in re.finditer(r"\S+(?: \S+)*", line)]
+    found = [(head.start() - MARGIN, head[0]) for head in re.finditer(r"\S+(?: \S+)*", line)]
     return found if len(found) == 2 and all(name in CALLS for _, name in found) else []
 
 
 def block_of(page: str) -> list[str]:
     """The lines of the one block that begins with two heads."""
-    texts: list[str] = re.findall(r"^```text\n(.*?)^```$", page, re.MULTILINE | re.DOTALL)
-    blocks = [it.splitlines() for it in texts]
-    found = [lines for lines in blocks if lines and heads_of(lines[0])]
+    found = [lines for _, lines in blocks_of(page) if lines and heads_of(lines[0])]
     if len(found) != 1:
         raise Unreadable(f"{len(found)} blocks begin with the heads of two calls")
     return found[0]
@@ -92,8 +92,7 @@ def lines_of(page: str) -> dict[str, dict[str, list[str]]]:
 
 def control_points(page: str) -> list[str]:
     """The control points of the table, Idle left out."""
-    rows = page.partition("\n| Control point | Its access |")[2].partition("\n\n")[0].splitlines()[2:]
-    return [label for label in (row.split("|")[1].strip() for row in rows) if label != "Idle"]
+    return [label for label, *_ in rows_of(page, "| Control point | Its access |") if label != "Idle"]
 
 
 # ---- The grammar ---------------------------------------------------------------------------------
@@ -118,7 +117,7 @@ FORMS = {
     rf" to \((?P<new>(?:true|false), {SUM}, (?:x|val|none)|{BIT}, {SUM}, (?:x|val|none))\)",
     "close": rf"close (?P<place>{TAIL})",
     "make": rf"(?P<word>{NAME}) := a new segment that holds"
-    r" (?P<place>x in cell (?P<at>[0-9]+) and has tail (?P<tail>[0-9]+))",
+    r" (?P<place>x in cell (?P<cell>[0-9]+) and has tail (?P<tail>[0-9]+))",
     "swap": rf"swap (?P<what>x|top) into (?P<place>ArrCell\({NUMBER}\))",
     "set": r"pass := (?P<number>[0-9]+)",
     "take": rf"(?P<word>{NAME}) := it",
@@ -141,6 +140,9 @@ CONDITIONS = {
 }
 
 
+OUTCOMES = ("won", "lost")  # of a CAS: the forms of a condition that stands before a colon without `if`
+
+
 @dataclass(frozen=True)
 class Sentence:
     """A sentence without `if`, or a condition: the name of its form, and the parts of it."""
@@ -156,7 +158,7 @@ class Sentence:
 
 @dataclass
 class Branch:
-    """A sentence with `if`."""
+    """A sentence with `if`, or what follows an outcome of a CAS."""
 
     conditions: list[Sentence]  # one that holds is enough
     then: Sentence
@@ -167,19 +169,7 @@ class Branch:
         return sum(condition.accesses() for condition in self.conditions)
 
 
-@dataclass
-class Outcome:
-    """What follows a CAS that won, or one that lost."""
-
-    is_won: bool
-    then: Sentence
-
-    def accesses(self) -> int:
-        """It makes none."""
-        return 0
-
-
-Part = Sentence | Branch | Outcome
+Part = Sentence | Branch
 
 
 @dataclass
@@ -199,10 +189,14 @@ class Step:
 def sentence_of(text: str, forms: dict[str, str]) -> Sentence:
     """The sentence of a text, by one of these forms."""
     for name, form in forms.items():
-        found = re.fullmatch(form, text)
-        if found:
+        if found := re.fullmatch(form, text):
             return Sentence(text, name, {key: part for key, part in found.groupdict().items() if part})
     raise Unreadable(f"no form of a line has `{text}`")
+
+
+def is_outcome(text: str) -> bool:
+    """Whether a text is what follows an outcome of a CAS."""
+    return text.partition(":")[0] in OUTCOMES
 
 
 def joined(lines: list[str]) -> list[str]:
@@ -210,17 +204,24 @@ def joined(lines: list[str]) -> list[str]:
     anew."""
     whole: list[str] = []
     for line in lines:
-        if whole and line.startswith(" ") and not line.strip().startswith(("won:", "lost:")):
+        if whole and line.startswith(" ") and not is_outcome(line.strip()):
             whole[-1] += f" {line.strip()}"
         else:
             whole.append(line.strip())
     return whole
 
 
-def branch_of(text: str) -> Branch:
-    """The sentence of a text after `if`."""
-    conditions, _, then = text.partition(": ")
-    return Branch([sentence_of(it, CONDITIONS) for it in conditions.split(" or ")], sentence_of(then, FORMS))
+def part_of(text: str) -> Part:
+    """What one sentence says, or an `if` with its `else`, or what follows an outcome of a CAS."""
+    word, _, rest = text.partition(" ")
+    if is_outcome(text):
+        return Branch([Sentence(word[:-1], word[:-1], {})], sentence_of(rest, FORMS))
+    if word != "if":
+        return sentence_of(text, FORMS)
+    conditions, _, ends = rest.partition(": ")
+    then, _, other = ends.partition("; else ")
+    either = [sentence_of(condition, CONDITIONS) for condition in conditions.split(" or ")]
+    return Branch(either, sentence_of(then, FORMS), sentence_of(other, FORMS) if other else None)
 
 
 def body_of(lines: list[str]) -> list[Part]:
@@ -228,36 +229,26 @@ def body_of(lines: list[str]) -> list[Part]:
     outcome of a CAS by the other one."""
     body: list[Part] = []
     for line in lines:
-        before: Part | None = None
-        for part in line.split("; "):
-            word, _, rest = part.partition(" ")
-            if word == "else" and isinstance(before, Branch) and not before.other:
-                before.other = sentence_of(rest, FORMS)
-                continue
-            if isinstance(before, Branch) or isinstance(before, Outcome) and word not in ("won:", "lost:"):
-                raise Unreadable(f"`{part}` can't follow in `{line}`")
-            if word in ("won:", "lost:"):
-                body.append(Outcome(word == "won:", sentence_of(rest, FORMS)))
-            else:
-                body.append(branch_of(rest) if word == "if" else sentence_of(part, FORMS))
-            before = body[-1]
+        texts = re.split("; (?!else )", line)
+        for before, text in zip(["", *texts], texts):
+            if before.startswith("if ") or is_outcome(before) and not is_outcome(text):
+                raise Unreadable(f"`{text}` can't follow in `{line}`")
+            body.append(part_of(text))
     return body
 
 
 def check_step(step: Step, labels: list[str]) -> None:
     """That a step begins with its one access or with a choice, that nothing follows a sentence that
     always leads away, and that what it leads to is there."""
-    first, *rest = (it.accesses() for it in step.body)
+    first, *rest = (part.accesses() for part in step.body)
     if first + step.has_choice() != 1 or any(rest):
         raise Unreadable(f"{step.label} does not begin with its one access")
-    if any(isinstance(it, Sentence) and it.form in ("go", "answer") for it in step.body[:-1]):
+    if any(isinstance(part, Sentence) and part.form in ("go", "answer") for part in step.body[:-1]):
         raise Unreadable(f"{step.label} goes on after it has led away")
-    for it in step.body:
-        ends = [it] if isinstance(it, Sentence) else [it.then]
-        if isinstance(it, Branch) and it.other:
-            ends.append(it.other)
+    for part in step.body:
+        ends = [part] if isinstance(part, Sentence) else [end for end in (part.then, part.other) if end]
         for end in ends:
-            if not isinstance(it, Sentence) and end.accesses():
+            if isinstance(part, Branch) and end.accesses():
                 raise Unreadable(f"an access under a condition: `{end.text}`")
             for label in (end.parts.get("to"), end.parts.get("then")):
                 if label and label not in labels:

@@ -1,11 +1,13 @@
-"""The built program as checks and measurements use it: runs, memory, lines, tables.
+"""Runs the built program, asks it lines and watches it, and prints tables and what checks find, for the tools,
+the checks and the measurements.
 
-`run` gives what a run wrote; `watch` also its time and its most memory; `Driven` is asked a line at
-a time. `try_program` has a throw-away program built beside a copy of some crates and run.
+`run` gives what a run wrote; `watch` also its time and its most memory; `Driven` is asked lines while it
+runs. `try_program` has a throw-away program built beside a copy of some crates and run.
 """
 
 import argparse
 import functools
+import itertools
 import os
 import re
 import select
@@ -27,6 +29,7 @@ BY_RATTLE = ".by-rattle"  # behind the name of the program, as `rt ci` has it bu
 SECONDS = 120.0  # a run, or a line, that takes longer has failed
 LOOK_EVERY = 0.001
 PIPE_BYTES = 1 << 16
+LINES = 300  # that are written before their replies are read: these fit into a pipe
 ELF = b"\x7fELF"  # how a program begins
 
 # The lines that make a step, and the replies to a line that is no command.
@@ -97,6 +100,19 @@ def run(
     return Ended(ended.returncode, ended.stdout, ended.stderr.decode(errors="replace"))
 
 
+def script_of(lines: Iterable[str], encoding: str = "ascii") -> bytes:
+    """The script of these lines."""
+    return "".join(f"{line}\n" for line in lines).encode(encoding)
+
+
+def replies_to(words: Sequence[str], script: bytes) -> list[str]:
+    """The replies of a run to a script, which it has to take."""
+    ended = run(words, script)
+    if ended.status:
+        raise Fault(ended.errors.strip() or f"the program ended with status {ended.status}")
+    return ended.output.decode("ascii").splitlines()
+
+
 def lines_of(text: str) -> list[str]:
     """The lines of a text. Only a line feed ends one."""
     return text.removesuffix("\n").split("\n") if text else []
@@ -118,22 +134,23 @@ def refusals_of(script: bytes, replies: Sequence[str]) -> tuple[str, bool]:
     them makes a step or is no command, so that the run is hardly the one that is meant. A refused
     `undo` or `roll` is a question that was answered."""
     lines = script.removesuffix(b"\n").split(b"\n")
-    refused = [
-        (at, line, reply)
-        for at, (line, reply) in enumerate(zip(lines, replies), 1)
-        if reply.startswith("refused ")
-    ]
+    refused = [row for row in zip(itertools.count(1), lines, replies) if row[2].startswith("refused ")]
     if not refused:
         return "", False
-    at, _, reply = refused[0]
+    number, _, reply = refused[0]
     has_fault = any(MAKES_A_STEP.match(line) or reply.startswith(NO_COMMAND) for _, line, reply in refused)
     returns = "; the script has carriage returns" if b"\r" in script else ""
-    return f"{len(refused)} of {len(lines)} lines are refused, the first is line {at}: {reply}{returns}", has_fault
+    return f"{len(refused)} of {len(lines)} lines are refused, the first is line {number}: {reply}{returns}", has_fault
+
+
+def counted(count: int, noun: str) -> str:
+    """So many of something."""
+    return f"{count} {noun}{'' if count == 1 else 's'}"
 
 
 def world_of(actors: int, ring: int) -> str:
     """How many actors a world has, and cells its rings, in words."""
-    return f"{actors} actor{'' if actors == 1 else 's'}, rings of {ring} cells (R = {ring})"
+    return f"{counted(actors, 'actor')}, rings of {ring} cells (R = {ring})"
 
 
 def peak_of(process: int) -> int:
@@ -145,40 +162,34 @@ def peak_of(process: int) -> int:
         return 0
 
 
+def next_of(child: subprocess.Popen[bytes], seconds: float) -> bytes | None:
+    """What a process has written, if its output comes here, and nothing when it has ended; none if neither
+    is so in time."""
+    if child.stdout:
+        is_there = select.select([child.stdout], [], [], seconds)[0]
+        return os.read(child.stdout.fileno(), PIPE_BYTES) if is_there else None
+    try:
+        child.wait(seconds)
+    except subprocess.TimeoutExpired:
+        return None
+    return b""
+
+
 def read_all(child: subprocess.Popen[bytes], seconds: float, rest: float, look_every: float) -> tuple[bytes, int, bool]:
-    """All that a process writes, its peak, and whether it ended in time. The reader rests after
-    each read."""
-    assert child.stdout  # a pipe
+    """All that a process writes, its peak, and whether it ended in time. The reader rests after each read."""
     chunks: list[bytes] = []
-    pipe, peak, looked = child.stdout.fileno(), 0, 0.0
-    end = time.perf_counter() + seconds
-    while True:
-        now = time.perf_counter()
+    peak, looked, end = 0, 0.0, time.perf_counter() + seconds
+    while (now := time.perf_counter()) < end:
         if now - looked >= look_every:
             peak, looked = max(peak, peak_of(child.pid)), now
-        if now >= end:
-            return b"".join(chunks), peak, False
-        if not select.select([pipe], [], [], look_every)[0]:
-            continue
-        chunk = os.read(pipe, PIPE_BYTES)
-        if not chunk:
+        chunk = next_of(child, look_every)
+        if chunk == b"":
             return b"".join(chunks), peak, True
-        chunks.append(chunk)
-        if rest:
-            time.sleep(rest)
-
-
-def look_on(child: subprocess.Popen[bytes], seconds: float) -> tuple[int, bool]:
-    """The peak of a process whose output goes elsewhere, and whether it ended in time."""
-    peak, end = 0, time.perf_counter() + seconds
-    while time.perf_counter() < end:
-        peak = max(peak, peak_of(child.pid))
-        try:
-            child.wait(LOOK_EVERY)
-            return peak, True
-        except subprocess.TimeoutExpired:
-            pass
-    return peak, False
+        if chunk:
+            chunks.append(chunk)
+            if rest:
+                time.sleep(rest)
+    return b"".join(chunks), peak, False
 
 
 def watch(
@@ -195,10 +206,7 @@ def watch(
     with tempfile.TemporaryFile() as errors:
         begin = time.perf_counter()
         with subprocess.Popen(words, stdin=given, stdout=stdout, stderr=errors) as child:
-            if keeps:
-                output, peak, is_in_time = read_all(child, seconds, rest, look_every)
-            else:
-                output, (peak, is_in_time) = b"", look_on(child, seconds)
+            output, peak, is_in_time = read_all(child, seconds, rest, look_every)
             if not is_in_time:
                 child.kill()
             status = child.wait()
@@ -229,8 +237,7 @@ def stolen_since(ticks: tuple[int, int]) -> float:
 
 
 class Driven:
-    """A run of the program, to be asked a line at a time: each line is written, and its one reply
-    is waited for before the next is written."""
+    """A run of the program, to be asked a line at a time, or many: it writes one reply to each."""
 
     def __init__(self, words: Sequence[str], seconds: float = SECONDS) -> None:
         self.seconds = seconds
@@ -260,27 +267,32 @@ class Driven:
     def ask(self, line: str) -> tuple[str, float, float]:
         """The reply to a line, whose letters are its bytes, and how many milliseconds it took from
         end to end, and of the program's processor time."""
-        text = line.encode("latin-1") + b"\n"
-        try:
-            worked, begin = time.clock_gettime_ns(self.clock), time.perf_counter_ns()
-            os.write(self.stdin.fileno(), text)
-            reply = self.reply(line)
-            end = time.perf_counter_ns()
-            return reply, (end - begin) / 1e6, (time.clock_gettime_ns(self.clock) - worked) / 1e6
-        except OSError as fault:
-            raise Broken(f"the program ended at `{line}`: {fault}") from fault
+        worked, begin = time.clock_gettime_ns(self.clock), time.perf_counter_ns()
+        reply = self.ask_some([line])[0]
+        end = time.perf_counter_ns()
+        return reply, (end - begin) / 1e6, (time.clock_gettime_ns(self.clock) - worked) / 1e6
 
-    def reply(self, line: str) -> str:
-        """The next line that the program writes."""
-        reply, pipe = b"", self.stdout.fileno()
-        while not reply.endswith(b"\n"):
+    def ask_all(self, lines: Sequence[str]) -> list[str]:
+        """The replies to lines, of which many are written before their replies are read."""
+        parts = (lines[first : first + LINES] for first in range(0, len(lines), LINES))
+        return [reply for part in parts for reply in self.ask_some(part)]
+
+    def ask_some(self, lines: Sequence[str]) -> list[str]:
+        """The replies to lines that all fit into a pipe, as their replies do."""
+        pieces: list[bytes] = []
+        pipe, missing = self.stdout.fileno(), len(lines)
+        try:
+            os.write(self.stdin.fileno(), script_of(lines, "latin-1"))
+        except OSError as fault:
+            raise Broken(f"the program ended at `{lines[0]}`: {fault}") from fault
+        while missing > 0:
             if not select.select([pipe], [], [], self.seconds)[0]:
-                raise Broken(f"`{line}` took more than {self.seconds} s")
-            piece = os.read(pipe, PIPE_BYTES)
-            if not piece:
-                raise Broken(f"the program ended at `{line}`")
-            reply += piece
-        return reply[:-1].decode("ascii", "replace")
+                raise Broken(f"`{lines[0]}` took more than {self.seconds} s")
+            pieces.append(os.read(pipe, PIPE_BYTES))
+            if not pieces[-1]:
+                raise Broken(f"the program ended at `{lines[0]}` with status {self.child.wait(self.seconds)}")
+            missing -= pieces[-1].count(b"\n")
+        return lines_of(b"".join(pieces).decode("ascii", "replace"))
 
 
 # ---- Throw-away programs -------------------------------------------------------------------------

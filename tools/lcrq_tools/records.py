@@ -1,9 +1,9 @@
-"""What the program takes and says, as the tables of docs/MANUAL.md have it: the one place where the words of
-an event, a place, a content and a reply are read and spelled.
+"""Reads and spells what the program takes and says, for all tools: the one place for the words of an event, a
+place, a content and a reply, as the tables of docs/MANUAL.md have them.
 
 `read` of a class reads a text, and `str` spells it again, byte for byte; `read_reply` reads any reply.
 Two keep a reading of their own, since they check the program independently: `dependence.py`, and
-`model.py` with `checks/pseudo_code.py`. Only Python's standard library is used.
+`model.py` with `checks/pseudo_code.py`.
 """
 
 import functools

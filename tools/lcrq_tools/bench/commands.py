@@ -32,8 +32,8 @@ from dataclasses import dataclass
 from pathlib import Path
 
 from lcrq_tools import program
+from lcrq_tools.bench.random_runs import SEED, random_run
 from lcrq_tools.faults import Parser
-from lcrq_tools.machine import SEED, random_run
 from lcrq_tools.options import add_program
 
 FEWEST_STEPS, MOST_STEPS = 100, 65_535

@@ -54,10 +54,11 @@ from typing import TypeVar
 
 from lcrq_tools import dependence, program
 from lcrq_tools.bench.commands import MOST_STEPS
+from lcrq_tools.bench.random_runs import SEED, random_run
 from lcrq_tools.faults import Parser
-from lcrq_tools.machine import SEED, dequeuers, random_run
 from lcrq_tools.options import add_program
 from lcrq_tools.program import Broken, Driven
+from lcrq_tools.start.starts import dequeuers
 
 FEWEST_STEPS = 1000
 STRETCHES = 64
@@ -145,7 +146,7 @@ RUNS = {
 def steps_of(words: list[str], run: Run, count: int) -> list[dependence.Step]:
     """The steps of a run of this length, from their records."""
     lines = run.whole(count) + [f"step {number}" for number in range(1, count + 1)]
-    ended = program.run(words, ("\n".join(lines) + "\n").encode())
+    ended = program.run(words, program.script_of(lines))
     replies = ended.output.decode().splitlines()
     refused = next((f"{line}: {reply}" for line, reply in zip(lines, replies) if reply.startswith("refused")), "")
     if ended.status or refused or len(replies) != 2 * count:

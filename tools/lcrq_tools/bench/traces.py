@@ -24,8 +24,8 @@ from pathlib import Path
 from typing import NamedTuple
 
 from lcrq_tools import program
+from lcrq_tools.bench.random_runs import random_run
 from lcrq_tools.faults import Parser
-from lcrq_tools.machine import random_run
 from lcrq_tools.options import add_program
 
 QUERIES = 200

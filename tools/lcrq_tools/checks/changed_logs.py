@@ -1,6 +1,5 @@
-"""Logs that `tools/conform.py` has to tell apart: those that agree and are changed in one place, those
-of other forms, long ones, and lines that can't be read. `tools/check.py ports` runs these. Only Python's
-standard library is used.
+"""Changes logs that agree, writes them in other forms and makes long ones and lines that can't be read, for
+`check.py ports`: `tools/conform.py` has to tell them apart.
 """
 
 import random
@@ -9,9 +8,9 @@ from collections.abc import Iterator
 
 from lcrq_tools.checks.port_runs import DIFFERS, RINGS, Bench, agrees, differs, steps_with
 from lcrq_tools.port.port_log import Record
+from lcrq_tools.program import script_of
 from lcrq_tools.records import Step
 
-CHANGED, SHORTER = 30, 10  # logs with one word changed, and logs without one record, over each ring
 LONG_CALLS = 1600  # of each of four threads: some 90,000 steps
 LONG = 70_000  # so many steps, at least: more than are live at a time
 OTHERS = {"won": "lost", "lost": "won", "open": "closed", "closed": "open", "none": "7", "(nil)": "7"}
@@ -43,41 +42,45 @@ def changed(record: Record, known: set[str], chance: random.Random) -> tuple[str
         word, value = parts[-1].split(" ")
         return f"{head}; {word} {int(value) + 1}", f"the port has {word} {int(value) + 1}"
     if chance.random() < 0.3:
-        label = chance.choice([it for it in LABELS if it != record.label])
-        return "; ".join([" ".join([*words[:2], label, *words[3:]]), *parts]), f"the port is at {label}"
-    at = chance.randrange(3, len(words))
-    other = other_word(words[at], known, chance)
-    text = "; ".join([" ".join([*words[:at], other, *words[at + 1 :]]), *parts])
-    return (text, f"at {record.label} the port ") if other else ("", "")
+        index, other = 2, chance.choice([label for label in LABELS if label != record.label])
+        said = f"the port is at {other}"
+    else:
+        index, said = chance.randrange(3, len(words)), f"at {record.label} the port "
+        other = other_word(words[index], known, chance)
+    words[index] = other
+    return ("; ".join([" ".join(words), *parts]), said) if other else ("", "")
 
 
 def change_fault(bench: Bench, records: list[Record], ring: int, chance: random.Random) -> str:
     """What is wrong where one word of a log is changed, or nothing."""
     rows, text = [*steps_with(records)], ""
     while not text:
-        at = chance.randrange(len(rows))
-        step, record, _ = rows[at]
-        known = {word for _, it, _ in rows[:at] for word in it.answer if word.startswith("0x")}
+        index = chance.randrange(len(rows))
+        step, record, _ = rows[index]
+        known = {word for _, before, _ in rows[:index] for word in before.answer if word.startswith("0x")}
         text, said = changed(record, known, chance)
-    log = "".join(f"{text if it is record else it.text}\n" for it in records)
-    return differs(bench.compared(log, "--ring", ring), said, step)
+    log = (text if other is record else other.text for other in records)
+    return differs(bench.compare(log, "--ring", ring), said, step)
 
 
 def left_out_fault(bench: Bench, records: list[Record], ring: int, chance: random.Random) -> str:
     """What is wrong where a step is left out, or nothing: it differs at the actor's next record at the
     latest. A reply belongs to the step before the one that is left out then."""
     rows = [*steps_with(records)]
-    at = chance.choice([at for at, (_, it, _) in enumerate(rows[:-40]) if it.label and it.label != "E10"])
-    step, record, _ = rows[at]
-    last = next(number for number, it, _ in rows[at + 1 :] if it.actor == record.actor)
-    first = max(number for number, it, _ in rows[:at] if it.actor == record.actor)
-    log = "".join(f"{it.text}\n" for it in records if it is not record)
-    status, text = bench.compared(log, "--ring", ring)
+    index = chance.choice([index for index, row in enumerate(rows[:-40]) if row[1].label not in ("", "E10")])
+    step, record, _ = rows[index]
+    last = next(number for number, other, _ in rows[index + 1 :] if other.actor == record.actor)
+    first = max(number for number, other, _ in rows[:index] if other.actor == record.actor)
+    status, text = bench.compare((other.text for other in records if other is not record), "--ring", ring)
     line = text.partition("\n")[0]
     found = DIFFERS.match(line)
     if status == 1 and found and (first if "replied" in line else step) <= int(found[1]) <= last:
         return ""
     return f"without `{record.text}`: status {status}, `{line[:200]}`"
+
+
+# How many logs are changed over each ring, how, and what finds what is wrong with one.
+CHANGES = ((30, "with one word changed", change_fault), (10, "without one step", left_out_fault))
 
 
 def change_runs(bench: Bench) -> Iterator[tuple[str, str]]:
@@ -86,19 +89,18 @@ def change_runs(bench: Bench) -> Iterator[tuple[str, str]]:
     for ring in RINGS:
         log = bench.log_of("lcrq", "--ring", ring, "--seed", 2, "--calls", 12, "--turns")
         records = bench.records_of(log)
-        faults = (change_fault(bench, records, ring, chance) for _ in range(CHANGED))
-        yield f"{CHANGED} logs with one word changed, rings of {ring}", next(filter(None, faults), "")
-        faults = (left_out_fault(bench, records, ring, chance) for _ in range(SHORTER))
-        yield f"{SHORTER} logs without one step, rings of {ring}", next(filter(None, faults), "")
+        for count, name, fault_of in CHANGES:
+            faults = (fault_of(bench, records, ring, chance) for _ in range(count))
+            yield f"{count} logs {name}, rings of {ring}", next(filter(None, faults), "")
 
 
 # ---- Forms ---------------------------------------------------------------------------------------
 
 
-def without_labels(bench: Bench, log: str) -> list[str]:
+def without_labels(bench: Bench, log: list[str]) -> list[str]:
     """A log that agrees, as one of places, accesses and answers: what the program says of its steps. The
     choices are left out."""
-    lines = [it.line() for it in bench.records_of(log) if it.kind != "reply"]
+    lines = [record.line() for record in bench.records_of(log) if record.kind != "reply"]
     asked = [f"step {number}" for number in range(1, len(lines) + 1)]
     made = []
     for number, reply in enumerate(bench.replies(["run", "-"], lines + asked)[len(lines) :], 1):
@@ -112,28 +114,27 @@ def form_runs(bench: Bench) -> Iterator[tuple[str, str]]:
     """Logs of other forms."""
     log = bench.log_of("lcrq", "--seed", 3, "--calls", 20, "--turns")
     made = without_labels(bench, log)
-    status, text = bench.compared("\n".join(made))
-    no_choice = "" if "of the choices at E10 follow" in text else "no choice was left out"
-    yield "a log without labels", agrees((status, text)) or no_choice
-    at = next(at for at in range(100, len(made)) if " value 0.0 " in made[at])
-    other = made[at].replace("; read; ", "; read; 9")
-    told = bench.compared("\n".join([*made[:at], other, *made[at + 1 :]]))
-    yield "a log without labels, one answer changed", differs(told, "found 9")
-    other = re.sub(r"value 0\.0 ([0-9])", lambda it: f"value 0.0 {(int(it[1]) + 1) % 4}", made[at])
-    told = bench.compared("\n".join([*made[:at], other, *made[at + 1 :]]))
-    yield "a log without labels, one place changed", differs(told, "the port accessed value 0.0 ")
+    report = bench.compare(made)
+    no_choice = "" if "of the choices at E10 follow" in report[1] else "no choice was left out"
+    yield "a log without labels", agrees(report) or no_choice
+    index = next(index for index in range(100, len(made)) if " value 0.0 " in made[index])
+    answer = made[index].replace("; read; ", "; read; 9")
+    place = re.sub(r"value 0\.0 ([0-9])", lambda cell: f"value 0.0 {(int(cell[1]) + 1) % 4}", made[index])
+    for name, other, said in (("answer", answer, "found 9"), ("place", place, "the port accessed value 0.0 ")):
+        report = bench.compare([*made[:index], other, *made[index + 1 :]])
+        yield f"a log without labels, one {name} changed", differs(report, said)
     yield "a log of two files, threads with names", parts_fault(bench, log)
-    yield "a log from a pipe", agrees(bench.told_by("conform.py", "-", given=log.encode("ascii")))
+    yield "a log from a pipe", agrees(bench.run_tool("conform.py", "-", given=script_of(log)))
 
 
-def parts_fault(bench: Bench, log: str) -> str:
+def parts_fault(bench: Bench, log: list[str]) -> str:
     """What is wrong with a log whose records are in two files and in no order, by threads with names."""
-    lines = [re.sub(r"^(\S+) (\S+)", r"\1 thread-\2", line) for line in log.splitlines()]
+    lines = [re.sub(r"^(\S+) (\S+)", r"\1 thread-\2", line) for line in log]
     random.Random(1).shuffle(lines)
     files = [bench.folder / "one.log", bench.folder / "other.log"]
     for file, part in zip(files, (lines[::2], lines[1::2])):
-        file.write_text("\n".join(part), encoding="ascii")
-    status, text = bench.told(*files)
+        file.write_text("\n".join(part), encoding="ascii")  # without the last line feed
+    status, text = bench.conform(*files)
     named, _, rest = text.partition("\n")
     return agrees((status, rest)) or ("" if ": the actors of the logs: thread-" in named else named)
 
@@ -141,16 +142,16 @@ def parts_fault(bench: Bench, log: str) -> str:
 def long_runs(bench: Bench) -> Iterator[tuple[str, str]]:
     """A run of more steps than are live at a time, and the same with one answer changed near its end."""
     log = bench.log_of("lcrq", "--seed", 5, "--calls", LONG_CALLS, "--ring", 4, "--turns")
-    told = bench.compared(log)
-    count = re.match(r"agrees: ([0-9,]+) steps", told[1])
+    report = bench.compare(log)
+    count = re.match(r"agrees: ([0-9,]+) steps", report[1])
     is_long = count and int(count[1].replace(",", "")) > LONG
-    yield f"a run of {count[1] if count else 'no'} steps", agrees(told) or ("" if is_long else f"{LONG:,} are wanted")
+    yield f"a run of {count[1] if count else 'no'} steps", agrees(report) or ("" if is_long else f"{LONG:,} are wanted")
     rows = [*steps_with(bench.records_of(log))]
-    step, record, _ = next(it for it in rows[-9000:] if it[1].label == "Q8")
+    step, record, _ = next(row for row in rows[-9000:] if row[1].label == "Q8")
     other = re.sub(r"[0-9]+$", "1", record.text)
     folder = bench.folder / "long"
-    told = bench.compared(log.replace(f"\n{record.text}\n", f"\n{other}\n"), "-o", folder)
-    fault = differs(told, "at Q8 the port found", step) or bench.files_fault(folder, told[1])
+    report = bench.compare((other if line == record.text else line for line in log), "-o", folder)
+    fault = differs(report, "at Q8 the port found", step) or bench.files_fault(folder, report[1])
     yield "the same with one answer changed", fault
 
 
@@ -167,13 +168,13 @@ UNREADABLE = [
     ("1 1 deq\n1 2 deq", "has the same stamp, by another actor"),
     ("1 1 E6 1 0; t", "should be words of an actor"),
     ("# nothing", "no record"),
-    ("\n".join(f"{it} t{it} deq" for it in range(1, 18)), "17 actors"),
+    ("\n".join(f"{number} t{number} deq" for number in range(1, 18)), "17 actors"),
 ]
 
 
 def unreadable_runs(bench: Bench) -> Iterator[tuple[str, str]]:
     """Logs that can't be read."""
     for log, said in UNREADABLE:
-        status, text = bench.compared(log)
+        status, text = bench.compare(log.splitlines())
         is_right = status == 2 and said in text and text.count("\n") == 1
         yield f"the line `{log.splitlines()[-1]}`", "" if is_right else f"status {status}: {text}"

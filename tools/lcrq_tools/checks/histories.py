@@ -14,7 +14,6 @@ from dataclasses import dataclass
 from pathlib import Path
 
 from lcrq_tools import history, program
-from lcrq_tools.faults import Fault
 from lcrq_tools.page import run_rows, run_states
 from lcrq_tools.records import Event, is_made
 
@@ -111,10 +110,7 @@ def world_of(chance: random.Random, folder: Path, given: argparse.Namespace) -> 
 def replies_to(words: list[str], calls: list[Call]) -> list[str]:
     """The replies of a run to the lines of calls, and last its trace."""
     built, command, *others = words
-    ended = program.run([built, command, "--trace", *others], "".join(f"{line}\n" for _, line in calls).encode("ascii"))
-    if ended.status:
-        raise Fault(ended.errors.strip())
-    return ended.output.decode("ascii").splitlines()
+    return program.replies_to([built, command, "--trace", *others], program.script_of(line for _, line in calls))
 
 
 def text_of(words: list[str], viewers: int, calls: list[Call], form: str) -> str:

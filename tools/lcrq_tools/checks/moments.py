@@ -93,10 +93,7 @@ class Loaded:
 
     def ask(self, lines: list[str]) -> list[str]:
         """The replies to these lines."""
-        ended = program.run(self.words, "".join(f"{line}\n" for line in lines).encode("ascii"))
-        if ended.status:
-            raise Fault(ended.errors.strip())
-        return ended.output.decode("ascii").splitlines()
+        return program.replies_to(self.words, program.script_of(lines))
 
     def about(self, word: str, places: Iterable[str]) -> dict[str, str]:
         """The replies to a line about each of these places, by the place."""

@@ -3,23 +3,23 @@ file of it that the gate compares with the program.
 
     python3 tools/check.py pages [--store]
 
-And it looks up what docs/PROVED.md and the READMEs of the crates name in backticks: functions,
-clauses, definitions, types and files. A name that is not in the tree, or not in the file that is
-named for it, is a fault too. So is a number on docs/PROVED.md or docs/ARCHITECTURE.md that is not
-what `tools/definitions.py` gives: how many definitions and lines a guarantee reaches, and in which
-files. Such a fault names the right number, and --store puts it there. On every page a script of
-tools/ has to be there, and the check or measurement that it runs; .ci/run has to be the README's
-test command; and each link leads to a file and a heading that are there. Each line of the manual's
-tables is in the help, and each keyword in its table of replies and in the rows that tests walk.
+It looks up these, too:
 
-The session of the README and the examples of the manual are in `examples/`, each a script beside
-its report, and `tools/check.py lessons` compares what the one is answered with the other. This
-compares the pages with these files. A view, and the line of a trace, are in the stored text of
-`tools/check.py rehearsals`, and the scripts of a view are in `examples/` too, byte for byte. What two
-people type and see live is how the table of lesson 12 begins. A block that shows a reply and is none
-of these is a fault, and so is a line of the pseudo-code of docs/MODEL.md that `model.py` can't read.
-Each block and each such script prints one line; the status is 1 if any of them differs. Only Python's
-standard library is used.
+- What docs/PROVED.md and the READMEs of the crates name in backticks is in the tree, and in the file that is
+  named for it: functions, clauses, definitions, types and files.
+- The numbers on docs/PROVED.md and docs/ARCHITECTURE.md are those of `tools/definitions.py`. A fault names the
+  right number, and --store puts it there.
+- The scripts of tools/ that a page names are there, and the check or measurement that each runs. .ci/run has
+  the README's test command. Each link leads to a file and a heading that are there.
+- Each line of the manual's tables is in the help, and each keyword in its table of replies and in the rows that
+  tests walk.
+
+The session of the README and the examples of the manual are in `examples/`, each a script beside its report;
+`tools/check.py lessons` compares these with the program. A view, and the line of a trace, are in the stored
+text of `tools/check.py rehearsals`, and the scripts of a view are in `examples/` too, byte for byte. What two
+people type and see live is how the table of lesson 12 begins. A block that shows a reply and is none of these
+is a fault, and so is a line of docs/MODEL.md's pseudo-code that `model.py` can't read. Each check prints a
+line; the status is 1 if one of them finds a fault. Only Python's standard library is used.
 """
 
 import collections
@@ -33,14 +33,16 @@ from lcrq_tools.checks import command_rows, lessons, rehearsals
 from lcrq_tools.entry import TOOLS, tools_in
 from lcrq_tools.faults import Parser
 from lcrq_tools.look import contracts, definitions
+from lcrq_tools.markdown import LINK, QUOTED, blocks_of, headings_of
 from lcrq_tools.program import CRATES, EXAMPLES, TOP, line_of, tried
 
-BLOCK = re.compile(r"^( *)```(\w+)\n(.*?)^ *```$", re.MULTILINE | re.DOTALL)
 REPLY = re.compile(rf"(?:{'|'.join(sorted(manual.REPLIES))}|viewer|history)\b.*")
 NUMBERED = re.compile(rf" *(?:\d+|-) {REPLY.pattern}")  # a reply to a viewer of `view --live`
 OUTPUT = "  output|"  # before each line of standard output in the stored text of `rehearsals`
 
+Checks = Iterator[tuple[str, str]]  # each a name and what is wrong, or nothing
 Rows = list[list[str]]  # each a line and its reply
+Numbers = tuple[str, str, str]  # a name, the numbers that a page has for it, and those that are right
 Example = tuple[str, str | None]  # a name, and that of the one whose lines a page leaves out before it
 
 # The pages, and of each the examples in their order.
@@ -50,16 +52,23 @@ PAGES: dict[str, list[Example]] = {
     "docs/RECIPES.md": [("poised", None)],
 }
 
+# All pages, the lessons among them.
+ALL = ["*.md", "docs/*.md", "tools/*.md", "examples/*.md", "crates/*/README.md"]
+
 LIVE = "12-two-viewers"  # the lesson with a table of what people type live
 
 # The scripts of `rehearsals` that the manual names, for whoever types its commands in `examples/`.
 COPIED = ["questions.script", "question.script"]
 
 
-def blocks_of(page: str) -> Iterator[tuple[str, list[str]]]:
-    """The blocks of a page, each its kind and its lines, without what a list puts before them."""
-    for found in BLOCK.finditer(page):
-        yield found[2], [line.removeprefix(found[1]) for line in found[3].splitlines()]
+def text_of(page: Path) -> str:
+    """The text of a page."""
+    return page.read_text(encoding="utf-8")
+
+
+def name_of(page: Path) -> str:
+    """The name of a page as the checks show it."""
+    return str(page.relative_to(TOP))
 
 
 def rows_of(lines: list[str]) -> Rows | None:
@@ -98,10 +107,10 @@ def is_live(lines: list[str]) -> str:
     """What is wrong with a block of what people type and see live, each below their name, or nothing, where
     this is how the table of a lesson begins."""
     names = {name.start(): name[0] for name in re.finditer(r"\w+", lines[0])}
-    shown = [(names.get(len(line) - len(line.lstrip())), line.strip()) for line in lines[1:] if line]
+    block = [(names.get(len(line) - len(line.lstrip())), line.strip()) for line in lines[1:] if line]
     rows = lessons.LIVE_ROW.findall((EXAMPLES / f"{LIVE}.md").read_text(encoding="utf-8"))
     typed = [(who, text) for who, *texts in rows for text in texts]
-    return "" if shown == typed[:len(shown)] else f"it is not the beginning of the table of {LIVE}.md"
+    return "" if block == typed[:len(block)] else f"it is not the beginning of the table of {LIVE}.md"
 
 
 def value_of(text: str) -> str | None:
@@ -126,16 +135,16 @@ def is_copied(name: str) -> str:
     return "" if copy.read_bytes() == source.read_bytes() else f"it is not {source.relative_to(TOP)}"
 
 
-def is_read(page: Path) -> str:
+def is_read() -> str:
     """What of the pseudo-code can't be read, or nothing."""
-    model.read(page.read_text(encoding="utf-8"))
+    model.read(text_of(model.PAGE))
     return ""
 
 
-def checks_of(name: str, examples: list[Example]) -> Iterator[tuple[str, str]]:
-    """The checks of a page, each a name and what is wrong, or nothing."""
+def checks_of(name: str, examples: list[Example]) -> Checks:
+    """The checks of the blocks of a page."""
     left = list(examples)
-    for kind, lines in blocks_of((TOP / name).read_text(encoding="utf-8")):
+    for kind, lines in blocks_of(text_of(TOP / name)):
         if kind == "sh":
             continue
         rows = rows_of(lines)
@@ -154,27 +163,17 @@ def checks_of(name: str, examples: list[Example]) -> Iterator[tuple[str, str]]:
         yield f"{name}: {example_name}", "it is not on the page"
 
 
-def all_checks() -> Iterator[tuple[str, str]]:
-    """The checks of all pages, and of the scripts that they name."""
+def block_checks() -> Checks:
+    """The checks of all blocks, of the scripts that pages name, and of the pseudo-code."""
     for name, examples in PAGES.items():
         yield from checks_of(name, examples)
     for name in COPIED:
         yield f"examples/{name}", tried(is_copied, name)
-    yield "docs/MODEL.md: the pseudo-code", tried(is_read, model.PAGE)
-
-
-def check_blocks() -> int:
-    """Prints each check of a block, a script or the pseudo-code; returns the exit status."""
-    wrong = 0
-    for check, fault in all_checks():
-        wrong += bool(fault)
-        print(line_of(check, fault))
-    return 1 if wrong else 0
+    yield "docs/MODEL.md: the pseudo-code", tried(is_read)
 
 
 # ---- Names ---------------------------------------------------------------------------------------
 
-QUOTED = re.compile(r"`([^`]+)`")
 CITED = re.compile(r"((?:`[^`]+`|[^`()|])+)\(`([\w/]+\.\w+)`\)")  # what a row cites, and of which file
 NAME = re.compile(r"(?:\w+::)*([A-Za-z_]\w+)")
 FILE = re.compile(r"[\w.-]*/[\w./-]*|\w+\.(?:rt|antt|py|md)")
@@ -187,11 +186,11 @@ def missing_of(line: str) -> Iterator[str]:
         for part in cited.split(";") if path.is_file() else []:
             names, _, labels = part.partition("`: `")
             for name in QUOTED.findall(f"{names}`"):
-                there = contracts.labels_of(path, name)
-                if there is None:
+                known = contracts.labels_of(path, name)
+                if known is None:
                     yield f"{name} in {file}"
                 else:
-                    yield from (f"{it} of {name}" for it in QUOTED.findall(f"`{labels}") if it not in there)
+                    yield from (f"{label} of {name}" for label in QUOTED.findall(f"`{labels}") if label not in known)
 
 
 def unknown_in(page: Path, line: str, names: set[str]) -> Iterator[str]:
@@ -209,20 +208,14 @@ def unknown_in(page: Path, line: str, names: set[str]) -> Iterator[str]:
             yield word
 
 
-def check_names() -> int:
-    """Prints each name on docs/PROVED.md and the READMEs of the crates that is not in the tree, or not
-    in the file that is named for it; returns the exit status."""
+def name_faults(pages: Iterable[Path]) -> Checks:
+    """Each line with a name that is not in the tree, or not in the file that is named for it."""
     names = {name for path in CRATES.rglob("*") for name in contracts.names_in(path)}
-    names |= {"ensures", "requires", *re.findall(r"\w+", (TOP / "crates.txt").read_text(encoding="utf-8"))}
-    pages, wrong = [TOP / "docs" / "PROVED.md", *sorted(CRATES.glob("*/README.md"))], 0
+    names |= {"ensures", "requires", *re.findall(r"\w+", text_of(TOP / "crates.txt"))}
     for page in pages:
-        for number, line in enumerate(page.read_text(encoding="utf-8").splitlines(), 1):
+        for number, line in enumerate(text_of(page).splitlines(), 1):
             for name in [*missing_of(line), *unknown_in(page, line, names)]:
-                print(f"WRONG {page.relative_to(TOP)}:{number}: no {name}")
-                wrong += 1
-    if not wrong:
-        print(f"ok    the names of {len(pages)} pages")
-    return 1 if wrong else 0
+                yield f"{name_of(page)}:{number}", f"no {name}"
 
 
 # ---- Tools ---------------------------------------------------------------------------------------
@@ -244,34 +237,20 @@ def unknown_tools(text: str) -> Iterator[str]:
     yield from (f"{name} for lcrq" for name in BY_LCRQ.findall(text) if name not in TOOLS)
 
 
-def gate_fault() -> str:
+def is_gate() -> str:
     """What is wrong with the gate, or nothing: its commands are those of the README."""
-    said = COMMAND.search((TOP / "README.md").read_text(encoding="utf-8"))
-    wanted = re.split(r"\s*&&\s*", said[1].strip()) if said else []
-    run = (TOP / ".ci" / "run").read_text(encoding="utf-8").splitlines()
-    first = next((at for at, line in enumerate(run) if line.startswith("cd ")), 0) + 1
-    return "" if run[first:] == wanted else "it is not the README's test command"
+    command = COMMAND.search(text_of(TOP / "README.md"))
+    wanted = re.split(r"\s*&&\s*", command[1].strip()) if command else []
+    lines = text_of(TOP / ".ci" / "run").splitlines()
+    first = next((index for index, line in enumerate(lines) if line.startswith("cd ")), 0) + 1
+    return "" if lines[first:] == wanted else "it is not the README's test command"
 
 
-def all_pages() -> list[Path]:
-    """All pages, the lessons among them."""
-    pages = {*TOP.glob("*.md"), *TOP.glob("docs/*.md"), *TOP.glob("tools/*.md"), *EXAMPLES.glob("*.md")}
-    return sorted(pages | {*CRATES.glob("*/README.md")})
-
-
-def check_tools() -> int:
-    """Prints each script that a page names and that is not there, and what is wrong with the gate;
-    returns the exit status."""
-    pages = all_pages()
-    pages.remove(TOP / "CHANGELOG.md")  # which may name what was there
-    texts = [(page.relative_to(TOP), page.read_text(encoding="utf-8")) for page in pages]
-    faults = [f"{page}: no {name}" for page, text in texts for name in unknown_tools(text)]
-    faults += [f".ci/run: {gate_fault()}"] if gate_fault() else []
-    for fault in faults:
-        print(f"WRONG {fault}")
-    if not faults:
-        print(f"ok    the scripts of {len(pages)} pages, and the gate")
-    return 1 if faults else 0
+def tool_faults(pages: Iterable[Path]) -> Checks:
+    """Each script that a page names and that is not there, and what is wrong with the gate."""
+    yield from ((name_of(page), f"no {name}") for page in pages for name in unknown_tools(text_of(page)))
+    if fault := is_gate():
+        yield ".ci/run", fault
 
 
 # ---- Numbers -------------------------------------------------------------------------------------
@@ -300,14 +279,14 @@ def said_in(pattern: re.Pattern[str], text: str) -> str:
     return " | ".join(found.groups()) if found else "no such sentence"
 
 
-def guarantees() -> Iterator[tuple[str, str, str]]:
-    """The rows of the guarantees, each with what the page says, and what the script gives."""
-    text = PROVED.read_text(encoding="utf-8")
+def guarantees() -> Iterator[Numbers]:
+    """The rows of the guarantees."""
+    text = text_of(PROVED)
     rows = GUARANTEE.findall(text)
     yield "rows of guarantees with numbers", str(len(rows)), str(text.count("\n| ["))
-    for words, said in rows:
+    for words, numbers in rows:
         count, _, *lines = definitions.reached_from(words.split() or definitions.HEADLINE).totals()
-        yield words or "the headline", said, in_row([count, *lines])
+        yield words or "the headline", numbers, in_row([count, *lines])
 
 
 def files_of(cell: str) -> list[Path]:
@@ -324,92 +303,79 @@ def only_in(paths: Iterable[Path], others: Iterable[Path]) -> str:
     return ", ".join(sorted(str(path.relative_to(CRATES)) for path in more.elements())) or "no other file"
 
 
-def reading() -> Iterator[tuple[str, str, str]]:
-    """The rows of what one must read to believe the headline, with what they add up to, as above."""
-    text, reached = ARCHITECTURE.read_text(encoding="utf-8"), definitions.reached_from(definitions.HEADLINE)
-    rows = [(files_of(cell), said, int(minutes)) for cell, said, minutes in READ.findall(text)]
-    for number, (files, said, _) in enumerate(rows, 1):
-        counts = [reached.counts(*it) for it in reached.texts if it[0] in files]
-        yield f"row {number} of the files", said, in_row(map(sum, zip(*counts)))
-    named, there = [path for files, _, _ in rows for path in files], {path for path, _ in reached.texts}
-    yield "files of all rows", only_in(named, there), only_in(there, named)
+def reading() -> Iterator[Numbers]:
+    """The rows of what one must read to believe the headline, and what they add up to."""
+    text, reached = text_of(ARCHITECTURE), definitions.reached_from(definitions.HEADLINE)
+    rows = [(files_of(cell), numbers, int(minutes)) for cell, numbers, minutes in READ.findall(text)]
+    for number, (files, numbers, _) in enumerate(rows, 1):
+        counts = [reached.counts(*key) for key in reached.texts if key[0] in files]
+        yield f"row {number} of the files", numbers, in_row(map(sum, zip(*counts)))
+    named, found = [path for files, _, _ in rows for path in files], {path for path, _ in reached.texts}
+    yield "files of all rows", only_in(named, found), only_in(found, named)
     yield "the headline's total", said_in(TOTAL, text), in_row(reached.totals())
-    yield "the headline's minutes", said_in(MINUTES, text), str(sum(minutes for _, _, minutes in rows))
+    yield "the headline's minutes", said_in(MINUTES, text), str(sum(minutes for *_, minutes in rows))
     yield "files of undo_at", said_in(FILES, text), str(definitions.reached_from(FOLLOWED).totals()[1])
 
 
-def with_numbers(text: str, said: str, wanted: str) -> str:
-    """A text with other numbers in place of those that it says, in one row or sentence of it."""
-    old, new = said.split(" | "), wanted.split(" | ")
+def with_numbers(text: str, numbers: str, wanted: str) -> str:
+    """A text with other numbers in place of some that it has, in one row or sentence of it."""
+    old, new = numbers.split(" | "), wanted.split(" | ")
     found = re.search(r"(\D+)".join(rf"(?<![\d,]){number}(?![\d,])" for number in old), text)
     if not found or len(old) == 1:
         return text
     return text[:found.start()] + new[0] + "".join(map("".join, zip(found.groups(), new[1:]))) + text[found.end():]
 
 
-def check_numbers(is_stored: bool) -> int:
-    """Prints each number of definitions, files and lines on the pages that `definitions.py` doesn't
-    give, with the one that it gives, or stores that one; returns the exit status."""
-    rows = [(PROVED, row) for row in guarantees()] + [(ARCHITECTURE, row) for row in reading()]
-    wrong = [(page, row) for page, row in rows if row[1] != row[2]]
-    for page, (name, said, wanted) in wrong:
-        print(f"WRONG {page.relative_to(TOP)}: {name}: it has {said}, and it should have {wanted}")
-        if is_stored:
-            page.write_text(with_numbers(page.read_text(encoding="utf-8"), said, wanted), encoding="utf-8")
-    if not wrong:
-        print(f"ok    {len(rows)} numbers of definitions, files and lines")
-    return 1 if wrong else 0
+def number_faults(rows: Iterable[tuple[Path, Numbers]], is_stored: bool) -> Checks:
+    """Each number on a page that `definitions.py` doesn't give, with the one that it gives, which may be stored."""
+    for page, (name, numbers, wanted) in rows:
+        if numbers != wanted:
+            yield f"{name_of(page)}: {name}", f"it has {numbers}, and it should have {wanted}"
+            if is_stored:
+                page.write_text(with_numbers(text_of(page), numbers, wanted), encoding="utf-8")
 
 
 # ---- Links ---------------------------------------------------------------------------------------
 
-LINK = re.compile(r"\]\(([^)\s#:]*)(?:#([^)\s]+))?\)")  # a file of the repository, and a heading there
-
-
-def headings_of(page: Path) -> set[str]:
-    """The names by which links know the headings of a page."""
-    text = BLOCK.sub("", page.read_text(encoding="utf-8"))
-    headings = re.findall("^#+ (.*)", text, re.MULTILINE)
-    return {re.sub(r"[^\w -]", "", heading.lower()).replace(" ", "-") for heading in headings}
-
 
 def dead_links(page: Path) -> Iterator[str]:
     """The links of a page that lead to no file, or to no heading of the page there."""
-    for name, heading in LINK.findall(page.read_text(encoding="utf-8")):
-        there = page.parent / name if name else page
-        if not there.exists() or heading and heading not in headings_of(there):
+    for name, heading in LINK.findall(text_of(page)):
+        file = page.parent / name if name else page
+        if not file.exists() or heading and heading not in headings_of(text_of(file)):
             yield f"{name}#{heading}" if heading else name
 
 
-def check_links() -> int:
-    """Prints each link of a page that leads nowhere; returns the exit status."""
-    pages = all_pages()
-    faults = [f"{page.relative_to(TOP)}: no {link}" for page in pages for link in dead_links(page)]
-    for fault in faults:
-        print(f"WRONG {fault}")
-    if not faults:
-        print(f"ok    the links of {len(pages)} pages")
-    return 1 if faults else 0
+# ---- All checks ----------------------------------------------------------------------------------
 
 
-# ---- Commands ------------------------------------------------------------------------------------
+def faults_of(faults: Iterable[tuple[str, str]], about: str) -> Checks:
+    """These faults, or, where there are none, that all this is right."""
+    yield from [*faults] or [(about, "")]
 
 
-def check_commands() -> int:
-    """Prints what each list of commands has more or less than the manual's table of lines; returns the
-    exit status."""
-    faults = [f"{name}: {fault}" for name, fault in command_rows.list_faults() if fault]
-    for fault in faults:
-        print(f"WRONG {fault}")
-    if not faults:
-        print(f"ok    the lists of {len(manual.FORMS)} lines")
-    return 1 if faults else 0
+def all_checks(is_stored: bool) -> Checks:
+    """The checks of all pages."""
+    yield from block_checks()
+    pages = sorted({page for pattern in ALL for page in TOP.glob(pattern)})
+    proved = [PROVED, *sorted(CRATES.glob("*/README.md"))]
+    yield from faults_of(name_faults(proved), f"the names of {len(proved)} pages")
+    current = [page for page in pages if page.name != "CHANGELOG.md"]  # which may name what was there
+    yield from faults_of(tool_faults(current), f"the scripts of {len(current)} pages, and the gate")
+    numbers = [(PROVED, row) for row in guarantees()] + [(ARCHITECTURE, row) for row in reading()]
+    yield from faults_of(number_faults(numbers, is_stored), f"{len(numbers)} numbers of definitions, files and lines")
+    links = ((name_of(page), f"no {link}") for page in pages for link in dead_links(page))
+    yield from faults_of(links, f"the links of {len(pages)} pages")
+    lists = (row for row in command_rows.list_faults() if row[1])
+    yield from faults_of(lists, f"the lists of {len(manual.FORMS)} lines")
 
 
 def main() -> int:
-    """Runs all checks of the pages; returns the exit status."""
+    """Prints the checks of all pages; returns the exit status."""
     parser = Parser(__doc__)
     parser.add_argument("--store", action="store_true", help="put the right numbers of definitions, files and lines")
-    is_stored: bool = parser.parse_args().store
-    checks = [check_blocks(), check_names(), check_tools(), check_numbers(is_stored), check_links(), check_commands()]
-    return max(checks)
+    status = 0
+    for name, fault in all_checks(parser.parse_args().store):
+        print(line_of(name, fault))
+        status = 1 if fault else status
+    return status

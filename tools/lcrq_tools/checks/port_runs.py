@@ -1,5 +1,4 @@
-"""Runs of the worked port of examples/port/, and of `tools/conform.py` over their logs: what the parts
-of `tools/check.py ports` share. Only Python's standard library is used.
+"""Runs the worked port of examples/port/, and `tools/conform.py` over its logs, for `check.py ports`.
 """
 
 import contextlib
@@ -7,22 +6,21 @@ import io
 import json
 import re
 import sys
-from collections.abc import Iterator
+from collections.abc import Iterable, Iterator
 from dataclasses import dataclass
 from pathlib import Path
-from typing import Any
 
 from lcrq_tools import program
 from lcrq_tools.faults import status_of
 from lcrq_tools.port import conform
 from lcrq_tools.port.port_log import Record, read_logs
-from lcrq_tools.program import TOP
+from lcrq_tools.program import TOP, lines_of, replies_to, script_of
+from lcrq_tools.start.starts import Start, Trace, segment_names
 
 RINGS = (2, 4, 8)
 DIFFERS = re.compile(r"step ([0-9]+): ")
 
-Told = tuple[int, str]  # the status of the tool, and what it writes
-Start = dict[str, Any]  # that of a trace, as JSON has it
+Report = tuple[int, str]  # the status of a tool, and what it writes
 
 
 @dataclass
@@ -32,31 +30,31 @@ class Bench:
     folder: Path
     program: str
 
-    def log_of(self, name: str, *options: object) -> str:
-        """The log of a run of the port, or of one of its bugs."""
+    def log_of(self, name: str, *options: object) -> list[str]:
+        """The lines of the log of a run of the port, or of one of its bugs."""
         ended = program.run([str(self.folder / name), *map(str, options)])
         if ended.status:
             raise program.Broken(f"{name} ended with status {ended.status}: {ended.errors.strip()}")
-        return ended.output.decode("ascii")
+        return lines_of(ended.output.decode("ascii"))
 
-    def file_of(self, log: str) -> str:
+    def file_of(self, log: Iterable[str]) -> str:
         """A file with this log."""
         file = self.folder / "a.log"
-        file.write_text(log, encoding="ascii")
+        file.write_bytes(script_of(log))
         return str(file)
 
-    def compared(self, log: str, *options: object) -> Told:
-        """What the tool says of a log."""
-        return self.told(self.file_of(log), *options)
+    def compare(self, log: Iterable[str], *options: object) -> Report:
+        """What conform.py says of a log."""
+        return self.conform(self.file_of(log), *options)
 
-    def told(self, *words: object) -> Told:
-        """What the tool says by these words of its command line."""
+    def conform(self, *words: object) -> Report:
+        """What conform.py says by these words of its command line."""
         output = io.StringIO()
         with contextlib.redirect_stdout(output), contextlib.redirect_stderr(output):
             status = status_of(conform.main, [*map(str, words), "--program", self.program])
         return status, output.getvalue()
 
-    def told_by(self, tool: str, *words: object, given: bytes = b"") -> Told:
+    def run_tool(self, tool: str, *words: object, given: bytes = b"") -> Report:
         """What a tool of tools/ says by these words, with this standard input."""
         command = [sys.executable, str(TOP / "tools" / tool), *map(str, words), "--program", self.program]
         ended = program.run(command, given)
@@ -64,10 +62,9 @@ class Bench:
 
     def replies(self, words: list[str], script: list[str]) -> list[str]:
         """What the program replies to a script."""
-        text = "".join(f"{line}\n" for line in script).encode("ascii")
-        return program.run([self.program, *words], text).output.decode("ascii").splitlines()
+        return replies_to([self.program, *words], script_of(script))
 
-    def records_of(self, log: str) -> list[Record]:
+    def records_of(self, log: Iterable[str]) -> list[Record]:
         """The records of a log."""
         return read_logs([self.file_of(log)])[0]
 
@@ -75,19 +72,18 @@ class Bench:
         """What is wrong with the files about a difference, or nothing: the script leads to the model's
         step, and the start before it is the world before that step."""
         script = (folder / "to.script").read_text(encoding="ascii").splitlines()
-        start = folder / "from.trace"
-        words = ["load", str(start)] if start.exists() else ["run", "-", "--ring", "2"]
+        start, before = folder / "from.trace", folder / "before.trace"
+        words, over = ["load", str(start)] if start.exists() else ["run", "-", "--ring", "2"], ["load", str(before)]
         whole = self.replies(words, [*script, f"step {len(script)}"])
-        alone = self.replies(["load", str(folder / "before.trace")], [script[-1], "step 1"])
-        one, other = (replies[-1].partition("; ")[2] for replies in (whole, alone))
-        if not one or one != other or any(reply.startswith("refused") for reply in whole):
-            return f"the last step of to.script is `{one}`, and over before.trace it is `{other}`"
-        if one.partition("; ")[2] not in text:
-            return f"the step `{one}` is not in what the tool says"
-        asked = questions_of(json.loads((folder / "before.trace").read_text(encoding="ascii"))["start"])
-        here = self.replies(words, [*script[:-1], *asked])[-len(asked) :]
-        there = self.replies(["load", str(folder / "before.trace")], asked)
-        if here != there:
+        alone = self.replies(over, [script[-1], "step 1"])
+        step, other = (replies[-1].partition("; ")[2] for replies in (whole, alone))
+        if not step or step != other or any(reply.startswith("refused") for reply in whole):
+            return f"the last step of to.script is `{step}`, and over before.trace it is `{other}`"
+        if step.partition("; ")[2] not in text:
+            return f"the step `{step}` is not in what the tool says"
+        trace: Trace = json.loads(before.read_text(encoding="ascii"))
+        asked = questions_of(trace["start"])
+        if self.replies(words, [*script[:-1], *asked])[-len(asked) :] != self.replies(over, asked):
             return "before.trace is another world than the one to which to.script leads before its last line"
         return "" if (folder / "steps.svg").exists() else "there is no picture"
 
@@ -95,27 +91,26 @@ class Bench:
 def questions_of(start: Start) -> list[str]:
     """The lines that ask for all actors, segments and ends of a start."""
     lines = [f"actor {number}" for number in range(1, len(start["actors"]) + 2)] + ["show qhead", "show qtail"]
-    for maker, made in enumerate(start["segments"]):
-        lines.append(f"show whole {maker}.{len(made)}")
-        for number, segment in enumerate(made):
-            lines += [f"show {kind} {maker}.{number}" for kind in ("head", "tail", "next")]
-            lines += [f"show cell {maker}.{number} {cell}" for cell, _ in enumerate(segment["cells"])]
+    lines += [f"show whole {maker}.{len(made)}" for maker, made in enumerate(start["segments"])]
+    for name, maker, number in segment_names(start):
+        lines += [f"show {kind} {name}" for kind in ("head", "tail", "next")]
+        lines += [f"show cell {name} {cell}" for cell, _ in enumerate(start["segments"][maker][number]["cells"])]
     return lines
 
 
 # ---- What is wanted ------------------------------------------------------------------------------
 
 
-def agrees(told: Told) -> str:
+def agrees(report: Report) -> str:
     """What is wrong where a log should agree, or nothing."""
-    status, text = told
+    status, text = report
     return "" if status == 0 and text.startswith("agrees: ") else f"status {status}: {text.strip()[:300]}"
 
 
-def differs(told: Told, said: str, step: int | None = None) -> str:
+def differs(report: Report, said: str, step: int | None = None) -> str:
     """What is wrong where a log should differ at this step, where it is known, in a headline that has
     these words, or nothing."""
-    status, text = told
+    status, text = report
     line = text.partition("\n")[0]
     found = DIFFERS.match(line)
     if status == 1 and found and said in line and step in (None, int(found[1])):

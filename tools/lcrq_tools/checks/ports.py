@@ -21,18 +21,21 @@ sequentially consistent. Only Python's standard library is used.
 
 import argparse
 import contextlib
+import json
 import shutil
 import tempfile
 from collections.abc import Callable, Iterator
 from pathlib import Path
+from typing import Any
 
 from lcrq_tools import model, program
-from lcrq_tools.checks import changed_logs, flaw_rows
-from lcrq_tools.checks.port_runs import RINGS, Bench, Told, agrees, differs, steps_with
+from lcrq_tools.checks import changed_logs
+from lcrq_tools.checks.port_runs import RINGS, Bench, Report, agrees, differs, steps_with
 from lcrq_tools.port.port_log import Record
 from lcrq_tools.program import EXAMPLES, TOP
 
 PORT = EXAMPLES / "port"
+SOUND = EXAMPLES / "15-why-a-dequeue-looks-twice-1.trace"
 LESSON, LESSON_LOG = "16-a-port-beside-the-model", "unsafe-ignored.log"
 TURNS, FREE = 16, 4  # runs over each ring, in turns and by free threads
 BUG_SEEDS = range(1, 7)
@@ -41,9 +44,9 @@ BUG_SEEDS = range(1, 7)
 # ---- The plain port ------------------------------------------------------------------------------
 
 
-def outcomes(records: list[Record]) -> set[str]:
-    """Each label of a log, and each with the first word of its answer."""
-    return {it.label for it in records} | {f"{it.label} {it.answer[0]}" for it in records if it.answer}
+def signs(record: Record) -> set[str]:
+    """A record's label, the label with the first word of its answer, and its reply."""
+    return {record.label, " ".join([record.label, *record.answer[:1]]), *record.reply[:1]}
 
 
 def wanted_outcomes() -> set[str]:
@@ -64,10 +67,10 @@ def plain_runs(bench: Bench) -> Iterator[tuple[str, str]]:
             fault = ""
             for seed in range(1, runs + 1):
                 log = bench.log_of("lcrq", "--ring", ring, "--seed", seed, "--threads", 2 + seed % 4, *words)
-                found = agrees(bench.compared(log, "--ring", ring))
+                found = agrees(bench.compare(log, "--ring", ring))
                 fault = fault or found and f"seed {seed}: {found}"
-                seen |= outcomes(bench.records_of(log))
-                count += log.count("\n")
+                seen = seen.union(*map(signs, bench.records_of(log)))
+                count += len(log)
             yield f"{runs} runs {'in turns' if words else 'of free threads'} over rings of {ring}", fault
     missing = ", ".join(sorted(wanted_outcomes() - seen))
     yield f"each line, and each CAS won and lost, in {count:,} records", missing and f"no run has {missing}"
@@ -76,56 +79,39 @@ def plain_runs(bench: Bench) -> Iterator[tuple[str, str]]:
 # ---- Bugs ----------------------------------------------------------------------------------------
 
 
-def ignores_safe(record: Record, before: Record) -> bool:
-    """Whether the port puts a value into an unsafe cell without a look at the head."""
-    return record.label == "E8" and before.label == "E6" and before.answer[0] == "0"
-
-
-def looks_once(record: Record, before: Record) -> bool:
-    """Whether the port leaves a ring after one look."""
-    return record.label == "Q14" and before.label == "Q13"
-
-
-def leaves_out_repair(record: Record, before: Record) -> bool:
-    """Whether the port does not repair the tail."""
-    return record.label in ("Q13", "Q14") and before.label == "Q8"
-
-
-def fails(record: Record, before: Record) -> bool:
-    """Whether an enqueue fails that has linked its segment."""
-    return record.reply == ("failed",) and before.label == "E14"
-
-
-# The bugs, each with what shows it in a log, and what the tool says of it.
-BUGS: dict[str, tuple[Callable[[Record, Record], bool], str]] = {
-    "unsafe-ignored": (ignores_safe, "the port is at E8, the model at E7"),
-    "one-look": (looks_once, "the port is at Q14, the model at Q2"),
-    "no-repair": (leaves_out_repair, "the model at Q9"),
-    "lost-race-fails": (fails, "at E14 the port replied failed, the model enqueued"),
+# The bugs, each with signs of an actor's record and of its next one that show it in a log, and what the tool
+# says of it: an unsafe cell is used without a look at the head; a ring is left after one look; the tail isn't
+# repaired; an enqueue fails that has linked its segment.
+BUGS: dict[str, tuple[str, set[str], str]] = {
+    "unsafe-ignored": ("E6 0", {"E8"}, "the port is at E8, the model at E7"),
+    "one-look": ("Q13", {"Q14"}, "the port is at Q14, the model at Q2"),
+    "no-repair": ("Q8", {"Q13", "Q14"}, "the model at Q9"),
+    "lost-race-fails": ("E14", {"failed"}, "at E14 the port replied failed, the model enqueued"),
 }
 
 
-def bug_run_fault(bench: Bench, log: str, wrong: list[int], said: str) -> str:
+def bug_run_fault(bench: Bench, log: list[str], wrong: list[int], said: str) -> str:
     """What is wrong with what the tool says of a run of a bug, which is wrong at these steps, or
     nothing."""
     if not wrong:
-        return agrees(bench.compared(log, "--ring", 2))
+        return agrees(bench.compare(log, "--ring", 2))
     folder = bench.folder / "files"
     shutil.rmtree(folder, ignore_errors=True)
-    told = bench.compared(log, "--ring", 2, "-o", folder)
-    return differs(told, said, wrong[0]) or bench.files_fault(folder, told[1])
+    report = bench.compare(log, "--ring", 2, "-o", folder)
+    return differs(report, said, wrong[0]) or bench.files_fault(folder, report[1])
 
 
 def bug_runs(bench: Bench) -> Iterator[tuple[str, str]]:
     """The runs of each bug; --go-on is tried with the one that is wrong the fewest times."""
-    for bug, (shows, said) in BUGS.items():
+    for bug, (first, then, said) in BUGS.items():
         found, fault = [], ""
         for seed in BUG_SEEDS:
             log = bench.log_of(f"lcrq-{bug}", "--ring", 2, "--seed", seed, "--calls", 20, "--turns")
             rows = steps_with(bench.records_of(log))
-            wrong = [step for step, record, before in rows if before and shows(record, before)]
-            it = bug_run_fault(bench, log, wrong, said)
-            fault = fault or it and f"seed {seed}: {it}"
+            pairs = ((step, signs(record), signs(before)) for step, record, before in rows if before)
+            wrong = [step for step, now, before in pairs if first in before and not then.isdisjoint(now)]
+            run_fault = bug_run_fault(bench, log, wrong, said)
+            fault = fault or run_fault and f"seed {seed}: {run_fault}"
             found += [(len(wrong), log)] * bool(wrong)
         name = f"{bug}: {len(found)} of {len(BUG_SEEDS)} runs differ, at the step that is wrong"
         yield name, fault or ("" if found else "none does")
@@ -133,35 +119,66 @@ def bug_runs(bench: Bench) -> Iterator[tuple[str, str]]:
             yield f"{bug}: all differences, with --go-on", go_on_fault(bench, *min(found))
 
 
-def go_on_fault(bench: Bench, count: int, log: str) -> str:
+def go_on_fault(bench: Bench, count: int, log: list[str]) -> str:
     """What is wrong with the list of all differences of a log that has so many, or nothing."""
-    text = bench.compared(log, "--ring", 2, "--go-on")[1]
-    wanted = f"\n{count} difference{'' if count == 1 else 's'} to the end of the log:\n"
-    if wanted not in text:
+    text = bench.compare(log, "--ring", 2, "--go-on")[1]
+    if f"\n{program.counted(count, 'difference')} to the end of the log:\n" not in text:
         return f"{count} are wrong, and it says {text[-300:]}"
     return "it stopped before the end" if "is not compared" in text else ""
+
+
+# ---- Starts with a flaw --------------------------------------------------------------------------
+
+# What freeze.py --check says of a start, by what changes the sound one so.
+FLAWS: dict[str, Callable[[Any], object]] = {
+    "no flaw": lambda start: None,
+    "Flaw 1: There are 1 to 16 actors": lambda start: start["segments"].pop(),
+    "Flaw 2, qtail: ": lambda start: start.update(qtail=[4, 0]),
+    "Flaw 2, next of segment 0.0: ": lambda start: start["segments"][0][0].update(next=[2, 0]),
+    "Flaw 3, actor 2 at Q13: ": lambda start: start["actors"][1].update(new=[9, 9]),
+    "Flaw 4, segment 3.0: ": lambda start: start["segments"][3][0].update(tail=2**62 + 1),
+    "Flaw 5, segment 0.0: ": lambda start: start["segments"][0][0]["cells"][1].__setitem__(1, 2**62 + 3),
+    "Flaw 6, the array: ": lambda start: start["array"].update(head=65),
+    "Flaw 7, actor 1 at E8: ": lambda start: start["actors"][0].update(t=2**62 + 1),
+    "Flaw 8, actor 1 at E8: E1 to E14: ": lambda start: start["actors"][0].update(idx=2),
+    "Flaw 8, actor 2 at Q13: Q1 to Q14: ": lambda start: start["actors"][1].update({"pass": 2}),
+    "Flaw 8, actor 4 at Idle: Idle: the record is the idle one; the flaw is gone with the t of":
+        lambda start: start["actors"][3].update(t=3),
+    "refused 27 BadTrace": lambda start: start.update(qtail=7),
+}
+
+
+def flaw_runs(bench: Bench) -> Iterator[tuple[str, str]]:
+    """The starts, each with what is wrong with what is said of it, or nothing."""
+    for said, change in FLAWS.items():
+        trace = json.loads(SOUND.read_text(encoding="ascii"))
+        change(trace["start"])
+        file = bench.folder / "flaw.trace"
+        file.write_text(json.dumps(trace), encoding="ascii")
+        status, text = bench.run_tool("freeze.py", "--check", file)
+        is_right = status == (said != "no flaw") and text.startswith(f"{file}: {said}") and text.count("\n") == 1
+        yield f"freeze.py --check: {said.strip()}", "" if is_right else f"status {status}: {text}"
 
 
 # ---- The lesson ----------------------------------------------------------------------------------
 
 
-def shown_fault(told: Told, status: int) -> str:
+def shown_fault(report: Report, status: int) -> str:
     """What is wrong where the lesson should show what a tool says, with this status, or nothing."""
     page = (EXAMPLES / f"{LESSON}.md").read_text(encoding="utf-8")
-    is_right = told[0] == status and f"```text\n{told[1]}```" in page
-    return "" if is_right else f"status {told[0]}, and the page does not show: {told[1]}"
+    is_right = report[0] == status and f"```text\n{report[1]}```" in page
+    return "" if is_right else f"status {report[0]}, and the page does not show: {report[1]}"
 
 
 def lesson_runs(bench: Bench) -> Iterator[tuple[str, str]]:
     """What the lesson for porters shows of its log, and of what comes of it on both sides."""
     with contextlib.chdir(TOP):
-        told = bench.told(f"examples/port/{LESSON_LOG}", "--ring", 2)
-    yield f"the report of {LESSON}", shown_fault(told, 1)
+        yield f"the report of {LESSON}", shown_fault(bench.conform(f"examples/port/{LESSON_LOG}", "--ring", 2), 1)
     start, said = (EXAMPLES / f"{LESSON}.trace").read_text(encoding="ascii"), ""
     for point in ("E7", "E8"):
         file = bench.folder / "start.trace"
         file.write_text(start.replace('"pc": "E7"', f'"pc": "{point}"'), encoding="ascii")
-        said += bench.told_by("continue_run.py", file)[1]
+        said += bench.run_tool("continue_run.py", file)[1]
     yield f"the continuations of {LESSON}", shown_fault((0, said), 0)
 
 
@@ -189,7 +206,7 @@ def checks(given: argparse.Namespace) -> Iterator[tuple[str, str]]:
     """The checks, each a name and what is wrong, or nothing."""
     with tempfile.TemporaryDirectory() as name:
         bench = Bench(Path(name), given.program)
-        for runs in (flaw_rows.flaw_runs, lesson_runs, changed_logs.unreadable_runs):
+        for runs in (flaw_runs, lesson_runs, changed_logs.unreadable_runs):
             yield from runs(bench)
         if missing := program.missing_of(("cc", "make")):
             yield from ((kind, program.Skipped(missing)) for kind in OF_THE_PORT)

@@ -24,8 +24,7 @@ import subprocess
 import sys
 import tarfile
 import tempfile
-from collections.abc import Iterator, Mapping
-from dataclasses import dataclass, field
+from collections.abc import Iterator, Mapping, Sequence
 from html.parser import HTMLParser
 from pathlib import Path
 from typing import NamedTuple
@@ -83,6 +82,7 @@ PLACEHOLDERS |= {"to.script", "before.trace", "from.trace", "port.trace", "steps
 # ---- Pages ---------------------------------------------------------------------------------------
 
 
+Checks = Iterator[tuple[str, str]]  # each a name and what is wrong, or nothing
 Rows = list[list[str]]  # the cells of each row of a table
 
 
@@ -94,74 +94,63 @@ class Item(NamedTuple):
     rows: Rows | None = None
 
 
-@dataclass
 class Page(HTMLParser):
-    """A page of the archive: its code, tables and links in order, its names, and its text."""
+    """A page of the archive: its code, tables and links in order, its names, and its text. The code of a table
+    comes after it."""
 
-    path: Path
-    items: list[Item] = field(default_factory=list)
-    inside: list[Item] = field(default_factory=list)  # the code of a table, which comes after it
-    names: set[str] = field(default_factory=set)
-    links: list[str] = field(default_factory=list)
-    text: str = ""
-
-    def __post_init__(self) -> None:
-        """Reads the page."""
+    def __init__(self, path: Path) -> None:
         super().__init__()
-        self.kind, self.is_pre = "", False
-        self.code: str | None = None
-        self.rows: Rows | None = None
-        self.cell: str | None = None
-        self.feed(self.path.read_text(encoding="utf-8"))
+        self.path, self.text = path, ""
+        self.items: list[Item] = []
+        self.links: list[str] = []
+        self.names: set[str] = set()
+        self.kind = "code"  # of the code that comes next
+        self.begins: dict[str, int] = {}  # where in the text the last element of each tag begins
+        self.rows: Rows = []  # of the last table
+        self.feed(path.read_text(encoding="utf-8"))
 
     def handle_starttag(self, tag: str, attributes: list[tuple[str, str | None]]) -> None:
         """Begins an element."""
         given = {name: value for name, value in attributes if value is not None}
         self.names |= {given["id"]} if "id" in given else set()
         self.links += [given["href"]] if "href" in given else []
+        self.begins[tag] = len(self.text)
         if tag == "pre":
-            self.is_pre, self.kind = True, given.get("data-language", "")
-        elif tag == "code":
-            self.code = ""
+            self.kind = given.get("data-language", "")
         elif tag == "table":
             self.rows = []
-        elif tag == "tr" and self.rows is not None:
+            self.items.append(Item("table", rows=self.rows))
+        elif tag == "tr":
             self.rows.append([])
-        elif tag in ("td", "th"):
-            self.cell = ""
 
     def handle_endtag(self, tag: str) -> None:
         """Ends an element."""
+        text = self.text[self.begins.get(tag, 0):]
         if tag == "code":
-            where = self.items if self.rows is None else self.inside
-            where.append(Item(self.kind if self.is_pre else "code", self.code or ""))
-            self.code = None
+            self.items.append(Item(self.kind, text))
         elif tag == "pre":
-            self.is_pre, self.kind = False, ""
-        elif tag in ("td", "th") and self.rows is not None:
-            self.rows[-1].append(self.cell or "")
-            self.cell = None
-        elif tag == "table" and self.rows is not None:
-            self.items += [Item("table", rows=self.rows), *self.inside]
-            self.rows, self.inside = None, []
+            self.kind = "code"
+        elif tag in ("td", "th"):
+            self.rows[-1].append(text)
 
     def handle_data(self, data: str) -> None:
         """Takes text."""
         self.text += data
-        self.code = None if self.code is None else self.code + data
-        self.cell = None if self.cell is None else self.cell + data
 
 
 # ---- Commands ------------------------------------------------------------------------------------
 
 
-@dataclass(frozen=True)
-class Command:
+class Command(NamedTuple):
     """What a page has to type, and what it shows of what that writes, if it does."""
 
-    kind: str  # sh or python
     text: str
-    shown: str | None
+    shown: str | None = None
+    kind: str = "sh"  # or python
+
+    def for_shell(self) -> str:
+        """The text as the shell reads it."""
+        return self.text if self.kind == "sh" else f"python3 - <<'LINES'\n{self.text}\nLINES\n"
 
 
 def stands_for(text: str) -> str:
@@ -181,52 +170,42 @@ def commands_of(page: Page) -> Iterator[Command]:
     """The commands of a page in order."""
     for (kind, text, _), after in zip(page.items, [*page.items[1:], Item("")]):
         if kind in ("sh", "python"):
-            yield Command(kind, text, None)
+            yield Command(text, kind=kind)
         elif kind == "code" and COMMAND.fullmatch(text):
-            shown = replies_in(after.rows) if after.rows and "--trace" not in text else None
-            yield Command("sh", stands_for(text), shown)
+            yield Command(stands_for(text), replies_in(after.rows) if after.rows and "--trace" not in text else None)
         elif kind == "text" and text.startswith("lcrqdb ") and "[" not in text:
             first, _, rest = text.partition("\n")
-            yield Command("sh", first, rest + "\n" * (not rest.endswith("\n")))
+            yield Command(first, rest + "\n" * (not rest.endswith("\n")))
 
 
 def readme_commands(folder: Path) -> list[Command]:
     """The commands of the README: its lines that are indented by four."""
     lines = (folder / "README").read_text(encoding="utf-8").splitlines()
-    return [Command("sh", line.strip(), None) for line in lines if re.match(r" {4}\S", line)]
-
-
-def plain(lines: list[str]) -> list[str]:
-    """Lines with their counts done."""
-    found = (re.fullmatch(r"(.*?)(?: x(\d+))?", line) for line in lines)
-    return [it[1] for it in found if it for _ in range(int(it[2] or 1))]
+    return [Command(line.strip()) for line in lines if re.match(r" {4}\S", line)]
 
 
 def lay_own(folder: Path, pages: list[Page], built: str) -> None:
     """Lays files of one's own beside the examples, for the recipes."""
-    own = plain(OWN)
-    files = {
+    examples = folder / "examples"
+    counted = (line.partition(" x") for line in OWN)
+    own = [line for line, _, times in counted for _ in range(int(times or 1))]
+    scripts = {
         "s.script": own,
-        "mine.script": (folder / "examples" / "session.script").read_text(encoding="ascii").splitlines(),
+        "mine.script": (examples / "session.script").read_text(encoding="ascii").splitlines(),
         "long.script": [*own, *["len"] * 400],
         "a.script": own,
         "b.script": [*own, "len"],
         "draft": ["# a draft", "", *(f"{line}  # done" for line in OWN)],
+        "my-port": ["#!/bin/sh", "cat t1.log"],
     }
-    for name, lines in files.items():
-        (folder / "examples" / name).write_text("\n".join([*lines, ""]), encoding="ascii")
-    for name, words in {"s.report": ["run", "-", "--ring", "2"], "s.trace": ["run", "-", "--trace"]}.items():
-        script = "\n".join([*(own if name == "s.report" else ["enq 1 7", "go 1"]), ""]).encode()
-        output = program.run([built, *words], script).output
-        (folder / "examples" / name).write_bytes(output if name == "s.report" else output.splitlines()[-1])
-    for name, records in LOGS.items():
-        (folder / "examples" / name).write_text(records.replace("|", "\n") + "\n", encoding="ascii")
-    mine = folder / "examples" / "my-port"
-    mine.write_text("#!/bin/sh\ncat t1.log\n", encoding="ascii")
-    mine.chmod(0o755)
-    for kind, text, _ in (item for page in pages for item in page.items):
-        if kind == "awk":
-            (folder / "examples" / "plain.awk").write_text(text, encoding="ascii")
+    scripts |= {name: records.split("|") for name, records in LOGS.items()}
+    files = {name: "".join(f"{line}\n" for line in lines).encode() for name, lines in scripts.items()}
+    files["s.report"] = program.run([built, "run", "-", "--ring", "2"], files["s.script"]).output
+    files["s.trace"] = program.run([built, "run", "-", "--trace"], b"enq 1 7\ngo 1\n").output.splitlines()[-1]
+    files |= {"plain.awk": item.text.encode() for page in pages for item in page.items if item.kind == "awk"}
+    for name, data in files.items():
+        (examples / name).write_bytes(data)
+    (examples / "my-port").chmod(0o755)
 
 
 SHELL = """\
@@ -245,14 +224,12 @@ echo $? > {folder}/status
 
 
 def run_commands(folder: Path, commands: list[Command], tried: Path) -> None:
-    """Runs commands in one shell, in the folder of the archive; each has a folder for what it
-    gives."""
+    """Runs commands in one shell, in the folder of the archive; each has a folder for what it gives."""
     lines = [SHELL]
     for number, command in enumerate(commands):
         own = tried / str(number)
         own.mkdir(parents=True)
-        text = command.text if command.kind == "sh" else f"python3 - <<'LINES'\n{command.text}\nLINES\n"
-        (own / "command").write_text(f"{text}\n", encoding="utf-8")
+        (own / "command").write_text(f"{command.for_shell()}\n", encoding="utf-8")
         (own / "input").write_text("len\n", encoding="ascii")
         lines.append(EACH.format(folder=own))
     places = dict.fromkeys([str(Path(sys.executable).parent), "/usr/local/bin", "/usr/bin", "/bin"])
@@ -264,31 +241,30 @@ def run_commands(folder: Path, commands: list[Command], tried: Path) -> None:
 BAD = re.compile(r".*(?:Traceback|command not found|No such file|can't be read|syntax error).*")
 
 
+def written(file: Path) -> str:
+    """What a command wrote into a file, if it is there."""
+    return file.read_text(encoding="utf-8", errors="replace") if file.is_file() else ""
+
+
 def fault_of(command: Command, own: Path) -> str:
     """What is wrong with a command that was run, or nothing."""
     if not (own / "status").is_file():
         return "the shell ended before it"
-    errors = (own / "errors").read_text(encoding="utf-8", errors="replace")
-    lines = (own / "failed").read_text(encoding="utf-8").splitlines() if (own / "failed").is_file() else []
-    inside = [line for line in lines if not line.startswith(f". {own}")]
+    errors, lines = written(own / "errors"), written(own / "failed").splitlines()
     last = command.text.splitlines()[-1].strip()
-    is_asked = last.startswith("! ") or "# status 1" in last  # so that status is an answer
-    inside = [line for line in inside if not ("# status 1" in last and line == last.partition("#")[0].strip())]
-    if inside or lines and not is_asked:
+    is_status = "# status 1" in last  # so that status is an answer
+    expected = last.partition("#")[0].strip() if is_status else None
+    inside = [line for line in lines if line != expected and not line.startswith(f". {own}")]
+    if inside or lines and not (is_status or last.startswith("! ")):
         return f"`{[*inside, command.text][0]}` fails: {' '.join(errors.split())[:200]}"
     if bad := BAD.search(errors):
         return bad[0]
-    output = (own / "output").read_text(encoding="utf-8", errors="replace")
+    output = written(own / "output")
     if command.shown is not None and output != command.shown:
         pairs = zip(output.splitlines() + [""], command.shown.splitlines() + [""])
-        got, shown = next(((it, other) for it, other in pairs if it != other), ("more or less", "so many lines"))
+        got, shown = next((pair for pair in pairs if pair[0] != pair[1]), ("more or less", "so many lines"))
         return f"it writes `{got}`, and the page shows `{shown}`"
     return ""
-
-
-def needs_a_library(command: Command, own: Path) -> bool:
-    """Whether a command says which library it needs, which isn't there."""
-    return (own / "errors").is_file() and "this needs jsonschema" in (own / "errors").read_text(encoding="utf-8")
 
 
 def needed_in(text: str) -> str:
@@ -296,16 +272,17 @@ def needed_in(text: str) -> str:
     return program.missing_of(name for name in PASSED_OVER if re.search(rf"(?:^|[|&;(] *){name} ", text, re.MULTILINE))
 
 
-def try_commands(folder: Path, name: str, commands: list[Command]) -> Iterator[tuple[str, str]]:
+def try_commands(folder: Path, name: str, commands: list[Command]) -> Checks:
     """Runs the commands of a page; gives each with what is wrong, or nothing."""
     with tempfile.TemporaryDirectory() as tried:
         run_commands(folder, commands, Path(tried))
         for number, command in enumerate(commands):
             own = Path(tried) / str(number)
             first = command.text.strip().splitlines()[0]
-            missing = "jsonschema" if needs_a_library(command, own) else needed_in(command.text)
-            fault = "" if missing == "jsonschema" else fault_of(command, own)
-            yield f"{name}: {first}", fault or program.Skipped(missing)
+            if "this needs jsonschema" in written(own / "errors"):
+                yield f"{name}: {first}", program.Skipped("jsonschema")
+            else:
+                yield f"{name}: {first}", fault_of(command, own) or program.Skipped(needed_in(command.text))
 
 
 # ---- Names and links -----------------------------------------------------------------------------
@@ -324,8 +301,7 @@ def link_fault(page: Page, pages: dict[Path, Page], link: str) -> str:
 
 def is_there(folder: Path, name: str) -> bool:
     """Whether the archive has a file of this name where one looks for it."""
-    places = [folder, *(folder / it for it in ("examples", "docs", "tools"))]
-    return name in PLACEHOLDERS or any((place / name).exists() for place in places)
+    return name in PLACEHOLDERS or any((folder / place / name).exists() for place in ("", "examples", "docs", "tools"))
 
 
 def name_fault(folder: Path, text: str) -> str:
@@ -352,31 +328,28 @@ def man_text(folder: Path) -> str:
 def content_fault(folder: Path, choice: release_pages.Choice, pages: dict[str, Page]) -> str:
     """What is wrong with the lessons and answers of an archive, or nothing."""
     lessons = {release_pages.LESSONS[number].stem for number in choice.lessons}
-    there = {path.stem for path in release_pages.LESSONS.values() if path.stem in pages["lessons"].names}
-    if there != lessons:
-        return f"lessons.html has {len(there)} lessons, and {len(lessons)} are chosen"
-    html = pages["lessons"].path.read_text(encoding="utf-8")
-    folded = len(re.findall(r"<summary>\s*Answer", html))
-    if folded != (len(lessons) if choice.answers == "with" else 0):
-        return f"lessons.html has {folded} answers"
-    if ("answers" in pages) != (choice.answers == "apart"):
-        return "answers.html is there, or is missing"
-    if choice.answers == "apart" and not lessons <= pages["answers"].names:
-        return "answers.html has not all lessons"
-    examples = [path.name for path in (folder / "examples").iterdir()]
-    others = [name for name in examples if name[:2].isdecimal() and int(name[:2]) not in choice.lessons]
-    if others:
-        return f"{others[0]} is of a lesson that is not chosen"
-    reports = {name.removesuffix(".script") for name in examples if name.endswith(".script")}
-    without = sorted(name for name in reports if not (folder / "examples" / f"{name}.report").is_file())
-    viewed = [name for name in without if not re.search(r"guide-5|question", name)]
-    return f"{viewed[0]}.script has no report" if viewed else ""
+    found = {path.stem for path in release_pages.LESSONS.values() if path.stem in pages["lessons"].names}
+    folded = len(re.findall(r"<summary>\s*Answer", pages["lessons"].path.read_text(encoding="utf-8")))
+    examples = sorted((folder / "examples").iterdir())
+    others = [path.name for path in examples if path.name[:2].isdecimal() and int(path.name[:2]) not in choice.lessons]
+    scripts = [path for path in examples if path.suffix == ".script" and not re.search(r"guide-5|question", path.stem)]
+    without = [path.name for path in scripts if not path.with_suffix(".report").is_file()]
+    is_apart = choice.answers == "apart"
+    rows = [
+        (found != lessons, f"lessons.html has {len(found)} lessons, and {len(lessons)} are chosen"),
+        (folded != (len(lessons) if choice.answers == "with" else 0), f"lessons.html has {folded} answers"),
+        (("answers" in pages) != is_apart, "answers.html is there, or is missing"),
+        (is_apart and "answers" in pages and not lessons <= pages["answers"].names, "answers.html has not all lessons"),
+        (others, f"{''.join(others[:1])} is of a lesson that is not chosen"),
+        (without, f"{''.join(without[:1])} has no report"),
+    ]
+    return next((fault for is_wrong, fault in rows if is_wrong), "")
 
 
 # ---- Archives ------------------------------------------------------------------------------------
 
 
-def make(words: list[str], built: str, folder: Path) -> Path:
+def make(words: Sequence[str], built: str, folder: Path) -> Path:
     """Makes an archive and unpacks it; returns its folder."""
     ended = program.run([*RELEASE, *words, "--program", built, "-o", str(folder)], timeout=SECONDS)
     if ended.status:
@@ -388,13 +361,6 @@ def make(words: list[str], built: str, folder: Path) -> Path:
         else:
             archive.extractall(folder)
     return folder / made.name.removesuffix(".tar.gz")
-
-
-def choice_of(words: list[str]) -> release_pages.Choice:
-    """What is chosen by options."""
-    given = dict(zip(words[::2], words[1::2]))
-    numbers = tuple(map(int, given["--lessons"].split(","))) if "--lessons" in given else tuple(release_pages.LESSONS)
-    return release_pages.Choice(numbers, given.get("--answers", "with"))
 
 
 def lay_repository(folder: Path, built: str) -> None:
@@ -427,58 +393,65 @@ def install_fault(top: Path, built: str) -> str:
         return "" if (folder / "run.html").is_file() else "it makes no page"
 
 
-def check_repository(pages: dict[str, Page], built: str) -> Iterator[tuple[str, str]]:
+def check_repository(pages: dict[str, Page], built: str) -> Checks:
     """Runs the commands of the pages in `examples/` of the repository."""
-    first = Command("sh", 'export PATH="$PWD/crates/lcrqdb/out:$PWD/tools:$PATH"; cd examples', None)
+    first = Command('export PATH="$PWD/crates/lcrqdb/out:$PWD/tools:$PATH"; cd examples')
     with tempfile.TemporaryDirectory() as name:
         folder = Path(name).resolve()
         lay_repository(folder, built)
         lay_own(folder, list(pages.values()), built)
         for stem, page in pages.items():
-            commands = [it for it in commands_of(page) if "export PATH" not in it.text]
+            commands = [command for command in commands_of(page) if "export PATH" not in command.text]
             yield from try_commands(folder, f"repository: {stem}.html", [first, *commands])
         yield "repository: pip installs the tools", install_fault(folder, built)
 
 
-def check_archive(words: list[str], runs: bool, built: str) -> Iterator[tuple[str, str]]:
-    """The checks of one archive."""
+def archive_commands(folder: Path, pages: dict[str, Page]) -> Iterator[tuple[str, list[Command]]]:
+    """The commands of the README and of each page, those first that lead to the program."""
+    yield "README", readme_commands(folder)
+    begin = [Command('export PATH="$PWD/bin:$PWD/tools:$PATH"; cd examples')]
+    for stem, page in pages.items():
+        commands = [*commands_of(page)]
+        first = [command for command in commands if "export PATH" in command.text] or begin
+        yield f"{stem}.html", [*first, *(command for command in commands if command not in first)]
+
+
+def check_names(folder: Path, pages: dict[str, Page]) -> Checks:
+    """The links of the pages, and what they, the README and the man page name."""
+    by_path = {page.path: page for page in pages.values()}
+    for stem, page in pages.items():
+        faults = filter(None, (link_fault(page, by_path, link) for link in page.links))
+        yield f"{stem}.html: {len(page.links)} links", next(faults, "")
+        yield f"{stem}.html: what it names", name_fault(folder, page.text)
+    yield "README: what it names", name_fault(folder, (folder / "README").read_text(encoding="utf-8"))
+    yield "the man page: what it names", name_fault(folder, man_text(folder))
+
+
+def check_archive(words: list[str], runs: bool, built: str) -> Checks:
+    """The checks of one archive. Where the commands are not to be tried, they are run all the same, for pages
+    name what they make."""
     about = " ".join(words) or "all"
     with tempfile.TemporaryDirectory() as name:
         folder = make(words, built, Path(name).resolve())
         pages = {path.stem: Page(path) for path in sorted((folder / "docs").glob("*.html"))}
-        by_path = {page.path: page for page in pages.values()}
-        yield f"{about}: lessons, answers and reports", content_fault(folder, choice_of(words), pages)
+        given = release.parser().parse_args([*words, "--program", built])
+        choice = release_pages.Choice(given.lessons, given.answers)
+        yield f"{about}: lessons, answers and reports", content_fault(folder, choice, pages)
         lay_own(folder, list(pages.values()), built)
-        prelude = readme_commands(folder)
-        if runs:
-            yield from try_commands(folder, f"{about}: README", prelude)
-        else:
-            run_commands(folder, prelude, Path(name) / "prelude")
-        here = [Command("sh", 'export PATH="$PWD/bin:$PWD/tools:$PATH"; cd examples', None)]
-        for stem, page in pages.items():
-            commands = [*commands_of(page)]
-            first = [it for it in commands if "export PATH" in it.text] or here
-            commands = [*first, *(it for it in commands if it not in first)]
-            if runs:
-                yield from try_commands(folder, f"{about}: {stem}.html", commands)
-            else:
-                run_commands(folder, commands, Path(name) / f"of-{stem}")
+        for where, commands in archive_commands(folder, pages):
+            tried = [*try_commands(folder, f"{about}: {where}", commands)]
+            yield from tried if runs else []
         if not words:
             yield "all: pip installs the tools", install_fault(folder, built)
             yield from check_repository(pages, built)
-        for stem, page in pages.items():
-            faults = filter(None, (link_fault(page, by_path, link) for link in page.links))
-            yield f"{about}: {stem}.html: {len(page.links)} links", next(faults, "")
-            yield f"{about}: {stem}.html: what it names", name_fault(folder, page.text)
-        yield f"{about}: README: what it names", name_fault(folder, (folder / "README").read_text(encoding="utf-8"))
-        yield f"{about}: the man page: what it names", name_fault(folder, man_text(folder))
+        yield from ((f"{about}: {check}", fault) for check, fault in check_names(folder, pages))
 
 
 def is_reproducible(built: str) -> str:
     """What is wrong with two archives of one choice, or nothing."""
     words = ["--lessons", "1", "--answers", "none"]
-    with tempfile.TemporaryDirectory() as one, tempfile.TemporaryDirectory() as other:
-        first, second = (make(words, built, Path(it)) for it in (one, other))
+    with tempfile.TemporaryDirectory() as a_folder, tempfile.TemporaryDirectory() as other:
+        first, second = (make(words, built, Path(name)) for name in (a_folder, other))
         same = Path(f"{first}.tar.gz").read_bytes() == Path(f"{second}.tar.gz").read_bytes()
     return "" if same else "two of them have other bytes"
 
@@ -493,16 +466,16 @@ def is_printed(built: str) -> str:
     return f"{wrong[0]} is no PDF" if wrong else ""
 
 
-def refuses(words: list[str], said: str, built: str, env: Mapping[str, str] | None = None) -> str:
+def refuses(words: list[str], reason: str, built: str, env: Mapping[str, str] | None = None) -> str:
     """What is wrong where these options have to be refused in one line, or nothing."""
     with tempfile.TemporaryDirectory() as name:
         ended = program.run([*RELEASE, *words, "--program", built, "-o", name], env=env)
     last = ended.errors.strip().splitlines()[-1:] or [""]
-    is_right = ended.status and said in last[0] and "Traceback" not in ended.errors
+    is_right = ended.status and reason in last[0] and "Traceback" not in ended.errors
     return "" if is_right else f"status {ended.status}: {last[0]}"
 
 
-def all_checks(built: str) -> Iterator[tuple[str, str]]:
+def all_checks(built: str) -> Checks:
     """All checks, each a name and what is wrong, or nothing."""
     yield "what the commands of the pages call is installed", program.Skipped(program.missing_of(PASSED_OVER))
     for words, runs in ARCHIVES:

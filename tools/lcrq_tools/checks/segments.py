@@ -17,9 +17,9 @@ import tempfile
 from collections.abc import Iterator
 
 from lcrq_tools.faults import Parser
-from lcrq_tools.machine import FAR, dequeuers
 from lcrq_tools.options import add_program
 from lcrq_tools.program import Broken, Driven
+from lcrq_tools.start.starts import FAR, dequeuers
 
 ACTORS = 8
 EACH = 8_191  # steps of an actor

@@ -73,7 +73,7 @@ def by_pytest(words: list[str]) -> Modules:
         cases = [*ElementTree.parse(report).iter("testcase")]
     modules: Modules = {}
     for case in cases:
-        faults = [it.text or it.get("message") or it.tag for it in case if it.tag in ("failure", "error")]
+        faults = [part.text or part.get("message") or part.tag for part in case if part.tag in ("failure", "error")]
         where = case.get("classname") or case.get("name") or ""  # a module that can't be read has no class
         test = f"{where}.{case.get('name')}"
         modules.setdefault(module_of(where), Module()).add(test, "".join(faults), case.find("skipped") is not None)
@@ -82,11 +82,11 @@ def by_pytest(words: list[str]) -> Modules:
 
 def tests_of(suite: unittest.TestSuite) -> Iterator[unittest.TestCase]:
     """The tests of a suite, and of those in it."""
-    for it in suite:
-        if isinstance(it, unittest.TestSuite):
-            yield from tests_of(it)
+    for part in suite:
+        if isinstance(part, unittest.TestSuite):
+            yield from tests_of(part)
         else:
-            yield it
+            yield part
 
 
 def by_unittest() -> Modules:
@@ -107,16 +107,16 @@ def unit_checks() -> Iterator[tuple[str, str]]:
     """The tests by their modules and what ran them, each with what is wrong with the first that fails, or
     nothing."""
     pytest = words_of("pytest")
-    by = "pytest" if pytest else "unittest"
+    runner = "pytest" if pytest else "unittest"
     try:
         modules = by_pytest(pytest) if pytest else by_unittest()
     except Broken as fault:
         yield "pytest", str(fault)
         return
     for name, module in sorted(modules.items()):
-        yield f"{module.count - module.skipped} tests of {name}, by {by}", module.wrong
+        yield f"{module.count - module.skipped} tests of {name}, by {runner}", module.wrong
         if module.skipped:
-            yield f"{module.skipped} tests of {name}, by {by}", Skipped("what they need")
+            yield f"{module.skipped} tests of {name}, by {runner}", Skipped("what they need")
 
 
 def tool_check(tool: str, *words: str) -> tuple[str, str]:

@@ -164,10 +164,8 @@ def sentences(parts: Iterable[model.Part | None]) -> Iterator[model.Sentence]:
     for it in parts:
         if isinstance(it, model.Sentence):
             yield it
-        elif isinstance(it, model.Branch):
-            yield from sentences([*it.conditions, it.then, it.other])
         elif it:
-            yield it.then
+            yield from sentences([*it.conditions, it.then, it.other])
 
 
 def read_words(step: model.Step) -> list[str]:

@@ -14,8 +14,7 @@ from dataclasses import dataclass, field
 from lcrq_tools.draw.figure import Session, in_order
 from lcrq_tools.draw.moment import SLOTS, names_of, next_of
 from lcrq_tools.draw.viewer_marks import viewer_name
-from lcrq_tools.faults import Fault
-from lcrq_tools.program import run
+from lcrq_tools.program import replies_to
 from lcrq_tools.records import Actor, Cell, Counts, Place, Refusal, Step, content_of
 
 MOST_KEPT = 6  # linked segments that a queue may have before some of them are left out
@@ -80,10 +79,7 @@ class Asked:
 
     def replies_to(self, lines: list[bytes]) -> list[str]:
         """The replies to these lines alone."""
-        ended = run(self.session.words, b"".join(line + b"\n" for line in lines))
-        if ended.status:
-            raise Fault(ended.errors.strip() or f"the program ended with status {ended.status}")
-        return ended.output.decode("ascii").splitlines()
+        return replies_to(self.session.words, b"".join(line + b"\n" for line in lines))
 
     def ask(self, questions: list[list[str]]) -> list[list[str]]:
         """The replies to each moment's questions, and in front of them that to its line."""

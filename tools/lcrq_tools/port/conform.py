@@ -19,6 +19,7 @@ never ended.
 
 import argparse
 import collections
+import contextlib
 import sys
 import tempfile
 import time
@@ -32,6 +33,8 @@ from lcrq_tools.port.port_log import Record, Unreadable, read_logs
 from lcrq_tools.port.port_replay import Replay
 from lcrq_tools.port.port_report import About
 from lcrq_tools.port.port_side import Side
+from lcrq_tools.program import counted
+from lcrq_tools.start.starts import values_in
 
 SHOWN = 10  # values and calls that are listed
 MOST_AT_ONE = 4  # differences of one record whose side is taken
@@ -43,15 +46,15 @@ SECONDS = 0.2  # between two lines of progress
 
 def parser() -> argparse.ArgumentParser:
     """The command line."""
-    it = Parser(__doc__, "port/unsafe-ignored.log --ring 2 -o difference")
-    it.add_argument("logs", metavar="LOG", nargs="+", help="a log; - is standard input")
-    options.add_ring(it)
-    options.add_trace(it)
-    it.add_argument("--go-on", action="store_true", help="take the port's side at each difference, and list all")
+    command = Parser(__doc__, "port/unsafe-ignored.log --ring 2 -o difference")
+    command.add_argument("logs", metavar="LOG", nargs="+", help="a log; - is standard input")
+    options.add_ring(command)
+    options.add_trace(command)
+    command.add_argument("--go-on", action="store_true", help="take the port's side at each difference, and list all")
     files = "the folder for the files about the first difference"
-    it.add_argument("-o", dest="output", metavar="DIR", type=Path, help=files)
-    options.add_program(it)
-    return it
+    command.add_argument("-o", dest="output", metavar="DIR", type=Path, help=files)
+    options.add_program(command)
+    return command
 
 
 def options_of(given: argparse.Namespace, records: list[Record]) -> list[str]:
@@ -66,11 +69,11 @@ class Progress:
     def __init__(self, total: int):
         self.total, self.said, self.is_shown = total, 0.0, sys.stderr.isatty()
 
-    def __call__(self, at: int) -> None:
+    def __call__(self, number: int) -> None:
         now = time.monotonic()
         if self.is_shown and now - self.said > SECONDS:
             self.said = now
-            print(f"\r{at:,} of {self.total:,} records", end="", file=sys.stderr, flush=True)
+            print(f"\r{number:,} of {self.total:,} records", end="", file=sys.stderr, flush=True)
 
     def end(self) -> None:
         """Takes the line away."""
@@ -85,66 +88,61 @@ class Ledger:
     """What the calls of a log put and took. Where the log has no reply of a call, the model's counts."""
 
     def __init__(self, comparison: Comparison):
-        self.put: collections.Counter[str] = collections.Counter()
-        self.taken: collections.Counter[str] = collections.Counter()
-        self.maybe: collections.Counter[str] = collections.Counter()  # by calls of which no reply is known
-        self.open: dict[int, tuple[str, int]] = {}  # of each actor the call that goes on, and its record
-        self.comparison = comparison
-        self.begin()
-        self.is_known = comparison.at == len(comparison.records) or any(it.reply for it in comparison.records)
-        self.last = {record.actor: record for record in comparison.records}
-        for at, record in enumerate(comparison.records):
-            self.see(at, record)
-        for call, at in self.open.values():
-            self.end(call, comparison.ends.get(at, ""))
-        self.open = {actor: it for actor, it in self.open.items() if it[1] not in comparison.ends}
+        self.comparison, records = comparison, comparison.records
+        self.enqueued: collections.Counter[str] = collections.Counter()
+        self.dequeued: collections.Counter[str] = collections.Counter()
+        # what may be there: at the start of a trace, and by calls of which no reply is known
+        self.possible = collections.Counter(map(str, values_in(comparison.start, ("enq", "aenq"))))
+        self.running: dict[int, tuple[str, int]] = {}  # of each actor the call that goes on, and its record
+        self.is_known = comparison.next == len(records) or any(record.reply for record in records)
+        self.last = {record.actor: record for record in records}
+        for number, record in enumerate(records):
+            self.see(number, record)
+        for actor, (call, began) in [*self.running.items()]:
+            self.end(call, comparison.ends.get(began, ""))
+            if began in comparison.ends:
+                del self.running[actor]
 
-    def begin(self) -> None:
-        """Counts what is there at the start of a trace."""
-        start = self.comparison.start
-        segments = [segment for made in start["segments"] for segment in made]
-        values = [cell[2] for segment in segments for cell in segment["cells"]]
-        calls = [actor["op"][1] for actor in start["actors"] if actor["op"] and len(actor["op"]) == 2]
-        self.maybe.update(str(value) for value in [*values, *calls] if value is not None)
-
-    def see(self, at: int, record: Record) -> None:
+    def see(self, number: int, record: Record) -> None:
         """Counts a record."""
         if record.kind == "call":
-            if record.actor in self.open:
-                call, began = self.open.pop(record.actor)
+            if record.actor in self.running:
+                call, began = self.running.pop(record.actor)
                 self.end(call, self.comparison.ends.get(began, ""))
-            self.open[record.actor] = record.call, at
-        elif record.reply and record.actor in self.open:
-            self.end(self.open.pop(record.actor)[0], " ".join(record.reply))
+            self.running[record.actor] = record.call, number
+        elif record.reply and record.actor in self.running:
+            self.end(self.running.pop(record.actor)[0], " ".join(record.reply))
 
     def end(self, call: str, reply: str) -> None:
         """Counts the end of a call."""
         if reply in ("enqueued", ""):
-            (self.put if reply else self.maybe).update(call.split(" ")[1:])
+            (self.enqueued if reply else self.possible).update(call.split(" ")[1:])
         elif reply.startswith("value "):
-            self.taken.update([self.comparison.names.meant([reply.split(" ")[1]])])
+            self.dequeued.update([self.comparison.names.meant([reply.split(" ")[1]])])
 
     def lines(self) -> Iterator[str]:
         """What is to be said of the values and the calls: nothing where the log has no replies and was
         not compared to its end."""
         if not self.is_known:
             return
-        may = self.put + self.maybe
-        left = [value for value in self.put if self.put[value] > self.taken[value]]
-        more = [value for value in self.taken if may[value] and self.taken[value] > may[value]]
-        strange = [value for value in self.taken if not may[value]]
-        yield from listed("put and never taken", left)
-        yield from listed("taken more often than put", more)
-        yield from listed("taken and never put", strange)
-        for actor, (call, _) in sorted(self.open.items()):
+        may, taken = self.enqueued + self.possible, self.dequeued
+        yield from listed("put and never taken", [*self.enqueued - taken])
+        yield from listed("taken more often than put", [value for value in taken - may if may[value]])
+        yield from listed("taken and never put", [value for value in taken if not may[value]])
+        for actor, (call, _) in sorted(self.running.items()):
             yield f"never ended: `{call}` of actor {actor}; its last record is `{self.last[actor].text}`"
 
 
 def listed(what: str, values: list[str]) -> Iterator[str]:
     """A line with the first of these values, if there are any."""
     if values:
-        more = f" and {len(values) - SHOWN} more" if len(values) > SHOWN else ""
-        yield f"{len(values)} value{'s' if len(values) > 1 else ''} {what}: {', '.join(values[:SHOWN])}{more}"
+        yield f"{counted(len(values), 'value')} {what}: {first_of(values)}"
+
+
+def first_of(words: list[str]) -> str:
+    """The first of these words, and how many more there are."""
+    more = f" and {len(words) - SHOWN} more" if len(words) > SHOWN else ""
+    return ", ".join(words[:SHOWN]) + more
 
 
 # ---- The comparison ------------------------------------------------------------------------------
@@ -162,12 +160,12 @@ def go_on(comparison: Comparison, found: Difference, progress: Progress) -> tupl
     """All differences to the end of the log, the first being known: of each the label with the kind, the
     headline and what was changed; and why it stopped before the end, or nothing."""
     differences: list[tuple[str, str, str]] = []
-    at: collections.Counter[int] = collections.Counter()
+    seen: collections.Counter[int] = collections.Counter()
     following: Difference | None = found
     while following:
         headline = About(comparison, following).headline()
-        at[following.at] += 1
-        changed = Side(comparison, following).take() if at[following.at] <= MOST_AT_ONE else ""
+        seen[following.index] += 1
+        changed = Side(comparison, following).take() if seen[following.index] <= MOST_AT_ONE else ""
         differences.append((f"{following.kind} at {following.label()}", headline, changed))
         if not changed:
             return differences, "no change of one place or actor takes the port's side here: the rest is not compared"
@@ -180,11 +178,10 @@ def grouped(differences: list[tuple[str, str, str]]) -> Iterator[str]:
     groups: dict[str, list[tuple[str, str]]] = {}
     for name, headline, changed in differences:
         groups.setdefault(name, []).append((headline, changed))
-    yield f"{len(differences)} difference{'s' if len(differences) > 1 else ''} to the end of the log:"
+    yield f"{counted(len(differences), 'difference')} to the end of the log:"
     for name, rows in groups.items():
         steps = [headline.partition(":")[0].removeprefix("step ") for headline, _ in rows]
-        more = f" and {len(steps) - SHOWN} more" if len(steps) > SHOWN else ""
-        yield f"  {name}: {len(rows)}, at step {', '.join(steps[:SHOWN])}{more}"
+        yield f"  {name}: {len(rows)}, at step {first_of(steps)}"
         yield f"    the first: {rows[0][0]}"
         yield f"    changed: {rows[0][1] or 'nothing'}"
 
@@ -193,16 +190,13 @@ def compare(given: argparse.Namespace, folder: Path) -> int:
     """Compares the logs; returns the exit status."""
     records, actors = read_logs(given.logs)
     if actors:
-        named = ", ".join(f"{name} is {at}" for at, name in enumerate(actors, 1))
-        say(f"the actors of the logs: {named}")
-    replay = Replay(given.program, folder, options_of(given, records))
-    try:
+        named = (f"{name} is {number}" for number, name in enumerate(actors, 1))
+        say(f"the actors of the logs: {', '.join(named)}")
+    with contextlib.closing(Replay(given.program, folder, options_of(given, records))) as replay:
         most = max(record.actor for record in records)
         if most > len(replay.states):
             raise Unreadable(f"the logs have an actor {most}, and the trace {len(replay.states)} actors")
         return compare_records(given, Comparison(replay, records))
-    finally:
-        replay.close()
 
 
 def compare_records(given: argparse.Namespace, comparison: Comparison) -> int:
@@ -220,9 +214,8 @@ def compare_records(given: argparse.Namespace, comparison: Comparison) -> int:
     if found and given.go_on:
         differences, stopped = go_on(comparison, found, progress)
         progress.end()
-        print("\n".join([*grouped(differences), *([stopped] if stopped else []), summary(comparison)]))
-    for line in Ledger(comparison).lines():
-        print(line)
+        print("\n".join(filter(None, [*grouped(differences), stopped, summary(comparison)])))
+    sys.stdout.writelines(f"{line}\n" for line in Ledger(comparison).lines())
     return 1 if found else 0
 
 

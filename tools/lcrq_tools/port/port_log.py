@@ -1,11 +1,11 @@
-"""The log of a port's accesses, as docs/MANUAL.md has it under PORTS: reads its records, merges
-files by stamp, and compares what a record says with what the program replies.
+"""Reads the log of a port's accesses for `conform.py`, in the form that docs/MANUAL.md has under PORTS: its
+records, merged by their stamps, and what they say in the program's words.
 
 A record is a line `STAMP ACTOR WHAT`: a call, a step with its label or its place, or a reply.
-Segments may have any names; `Names` learns which segment of the model each of them is. `conform.py`
-is the tool that uses this. Only Python's standard library is used.
+Segments may have any names; `Names` learns which segment of the model each of them is.
 """
 
+import itertools
 import re
 import sys
 from collections.abc import Iterator, Sequence
@@ -14,9 +14,9 @@ from pathlib import Path
 
 from lcrq_tools import model
 from lcrq_tools.faults import Fault
+from lcrq_tools.options import MOST_ACTORS
 from lcrq_tools.records import CALLS, NOTHING, PLACES, WORDS
 
-MOST_ACTORS = 16
 MOST_NUMBER = 2**64 - 1
 
 ACCESSES = ("read", "wrote", "wrote index")
@@ -45,7 +45,7 @@ class Record:
     label: str = ""
     choice: str = ""  # of the schedule, at E10
     place: tuple[str, ...] = ()
-    access: str = ""
+    access: tuple[str, ...] = ()
     answer: tuple[str, ...] = ()
     reply: tuple[str, ...] = ()
     words: tuple[str, ...] = ()  # words of the actor, each with its value after it
@@ -56,6 +56,13 @@ class Record:
             word, *rest = self.call.split(" ")
             return " ".join([word, str(self.actor), *rest])
         return f"starve {self.actor} {self.choice}" if self.choice else f"go {self.actor}"
+
+    def asked(self, number: int) -> list[str]:
+        """The lines that make it as the step of this number, and ask for the step and its actor; none for a reply."""
+        if self.kind == "reply":
+            return []
+        step = [f"step {number}"] if self.kind == "step" else []
+        return [self.line(), *step, f"actor {self.actor}"]
 
 
 # ---- Records -------------------------------------------------------------------------------------
@@ -68,15 +75,19 @@ def is_place(words: list[str]) -> bool:
 
 def number_of(word: str) -> str:
     """A number of a log as the program writes it; nothing for what is none."""
-    if not NUMBER.fullmatch(word) or int(word, 0 if "x" in word else 10) > MOST_NUMBER:
-        return ""
-    return str(int(word, 0 if "x" in word else 10))
+    number = int(word, 16 if "x" in word else 10) if NUMBER.fullmatch(word) else MOST_NUMBER + 1
+    return str(number) if number <= MOST_NUMBER else ""
+
+
+def said(words: list[str]) -> tuple[str, ...]:
+    """The words of a part of a record; none where it is left out."""
+    return () if words == [NOTHING] else tuple(words)
 
 
 def read_call(record: Record, words: list[str]) -> None:
     """Puts a call into its record."""
     word, *rest = words
-    numbers = [number_of(it) for it in rest]
+    numbers = [*map(number_of, rest)]
     if len(rest) != CALLS[word] or not all(numbers):
         raise Unreadable(f"a call is enq X, deq, aenq X or adeq, with X up to {MOST_NUMBER}")
     record.kind, record.call = "call", " ".join([word, *numbers])
@@ -96,7 +107,7 @@ def read_tail(record: Record, parts: list[list[str]]) -> None:
             continue
         if part[0] not in WORDS:
             record.reply = tuple(part)
-        elif len(part) % 2 or any(it not in WORDS for it in part[::2]):
+        elif len(part) % 2 or not set(part[::2]) <= set(WORDS):
             raise Unreadable(f"`{' '.join(part)}` should be words of an actor, each with its value")
         else:
             record.words += tuple(part)
@@ -105,12 +116,10 @@ def read_tail(record: Record, parts: list[list[str]]) -> None:
 def read_place(record: Record, words: list[str], parts: list[list[str]]) -> None:
     """Puts a step by its place into its record: the place, the access and the answer."""
     record.place = tuple(words)
-    if parts and (" ".join(parts[0]) in ACCESSES or parts[0] == [NOTHING]):
-        access = " ".join(parts.pop(0))
-        record.access = "" if access == NOTHING else access
+    if parts and " ".join(parts[0]) in (*ACCESSES, NOTHING):
+        record.access = said(parts.pop(0))
     if parts:
-        answer = parts.pop(0)
-        record.answer = () if answer == [NOTHING] else tuple(answer)
+        record.answer = said(parts.pop(0))
     read_tail(record, parts)
 
 
@@ -126,7 +135,7 @@ def read_step(record: Record, words: list[str], parts: list[list[str]], labels: 
         return read_place(record, words, parts)
     if record.label and words and words[0] in CHOICES:
         return read_choice(record, words)
-    record.answer = () if words == [NOTHING] else tuple(words)
+    record.answer = said(words)
     return read_tail(record, parts)
 
 
@@ -152,14 +161,11 @@ def record_of(where: str, text: str, labels: set[str]) -> Record:
 
 def lines_of(name: str) -> Iterator[tuple[str, str]]:
     """The lines of a log, each with where it is; `-` is standard input."""
-    try:
-        with sys.stdin if name == "-" else Path(name).open(encoding="utf-8", errors="replace") as log:
-            for number, line in enumerate(log, 1):
-                text = line.strip()
-                if text and not text.startswith("#"):
-                    yield f"{'standard input' if name == '-' else name}:{number}", text
-    except OSError as fault:
-        raise Unreadable(f"{name}: {fault.strerror}") from fault
+    where = "standard input" if name == "-" else name
+    with sys.stdin if name == "-" else Path(name).open(encoding="utf-8", errors="replace") as log:
+        for number, text in enumerate(map(str.strip, log), 1):
+            if text and not text.startswith("#"):
+                yield f"{where}:{number}", text
 
 
 def records_of(name: str, labels: set[str]) -> Iterator[Record]:
@@ -173,25 +179,24 @@ def records_of(name: str, labels: set[str]) -> Iterator[Record]:
 
 def check_order(records: list[Record]) -> None:
     """That no two actors share a stamp: their order would be anybody's guess."""
-    for one, other in zip(records, records[1:]):
-        if one.stamp == other.stamp and one.name != other.name:
-            raise Unreadable(f"{other.where}: `{other.text}`: {one.where} has the same stamp, by another actor")
+    for first, then in itertools.pairwise(records):
+        if first.stamp == then.stamp and first.name != then.name:
+            raise Unreadable(f"{then.where}: `{then.text}`: {first.where} has the same stamp, by another actor")
 
 
 def number_actors(records: list[Record]) -> list[str]:
     """Gives each record the model's number of its actor. Returns the names of the actors, the first
     that of actor 1; none where the log has the numbers 1 to 16 already."""
-    names = list(dict.fromkeys(record.name for record in records))
-    if all(name.isdecimal() and 1 <= int(name) <= MOST_ACTORS and name[0] != "0" for name in names):
-        for record in records:
-            record.actor = int(record.name)
-        return []
-    if len(names) > MOST_ACTORS:
-        raise Unreadable(f"the logs have {len(names)} actors, and a world has {MOST_ACTORS} at most")
-    numbers = {name: at for at, name in enumerate(names, 1)}
+    numbers = {str(number): number for number in range(1, MOST_ACTORS + 1)}
+    names = [*dict.fromkeys(record.name for record in records)]
+    has_numbers = set(names) <= numbers.keys()
+    if not has_numbers:
+        if len(names) > MOST_ACTORS:
+            raise Unreadable(f"the logs have {len(names)} actors, and a world has {MOST_ACTORS} at most")
+        numbers = {name: number for number, name in enumerate(names, 1)}
     for record in records:
         record.actor = numbers[record.name]
-    return names
+    return [] if has_numbers else names
 
 
 def read_logs(names: list[str]) -> tuple[list[Record], list[str]]:

@@ -1,9 +1,9 @@
-"""What is said of a difference between a port and the model, and the files about it: both sides in
-the words of docs/MODEL.md, who wrote the places in question and who touched them since, a script, a
-start, a picture and a page. `conform.py` is the tool that uses this. Only Python's standard library
-is used.
+"""Says what differs between a port and the model for `conform.py`, and writes the files about it: both sides
+in the words of docs/MODEL.md, who wrote the places in question and who touched them since, a script, a
+start, a picture and a page.
 """
 
+import collections
 from collections.abc import Callable, Iterable, Iterator
 from pathlib import Path
 
@@ -12,12 +12,16 @@ from lcrq_tools.draw import picture
 from lcrq_tools.faults import FAULTS, text_of
 from lcrq_tools.page import page
 from lcrq_tools.port.port_compare import NEEDS_CHOICE, Comparison, Difference
+from lcrq_tools.program import script_of
 from lcrq_tools.records import Cell, Place, content_of
+from lcrq_tools.start import starts
+from lcrq_tools.start.starts import Trace
 
 ROWS = 25  # steps of the picture
 PAGE_LINES = 100  # of the script, on the page
 TOUCHES = 8  # steps that are named, of those that touched a place
 Tool = Callable[[list[str]], int]  # the `main` of what draws a run, by the words of a command line
+VERBS = {"reply": "replied ", "place": "accessed ", "access": "", "answer": "found "}  # for each kind of difference
 ENDS = {"qhead": "QHead", "qtail": "QTail", "ahead": "ArrHead", "atail": "ArrTail"}
 
 # ---- Words ---------------------------------------------------------------------------------------
@@ -47,8 +51,8 @@ def value_phrase(value: str) -> str:
 
 def said_of(found: Difference) -> str:
     """Both sides of a difference."""
-    port, ours, at = found.port, found.model, found.point
-    where = "in no call" if at == "Idle" else f"at {at}"
+    port, ours, point = found.port, found.model, found.point
+    where = "in no call" if point == "Idle" else f"at {point}"
     match found.kind:
         case "line" if ours.startswith(NEEDS_CHOICE):
             side = f"at {port}" if port else "past the choice"
@@ -59,18 +63,13 @@ def said_of(found: Difference) -> str:
             return f"the port begins the call {port}, the model is {where} of another one"
         case "reply" if found.record.kind == "reply" and not ours:
             where = "in no call" if found.state.is_idle() else f"at {found.state.point}"
-            return f"the port's call replied {port} after {at}, the model is {where}"
-        case "reply":
-            return f"at {at} the port replied {port}, the model {ours or 'goes on'}"
-        case "place":
-            return f"at {at} the port accessed {port}, the model {ours}"
-        case "access":
-            return f"at {at} the port {port}, the model {ours}"
-        case "answer":
-            return f"at {at} the port {'' if port in ('won', 'lost') else 'found '}{port}, the model {ours}"
+            return f"the port's call replied {port} after {point}, the model is {where}"
         case "words":
-            return f"after {at} the port has {port}, the model {ours}"
-    return f"the model, at {at}, can't make this step: {ours}"
+            return f"after {point} the port has {port}, the model {ours}"
+        case "refused":
+            return f"the model, at {point}, can't make this step: {ours}"
+    verb = "" if port in ("won", "lost") else VERBS[found.kind]
+    return f"at {point} the port {verb}{port}, the model {ours or 'goes on'}"
 
 
 class About:
@@ -82,7 +81,7 @@ class About:
         self.last = last if last <= len(self.replay.steps) else 0
         self.last_point, self.last_step = self.replay.steps[self.last - 1] if self.last else ("", None)
         page = model.PAGE.read_text(encoding="utf-8")
-        self.lines = {label: text for column in model.lines_of(page).values() for label, text in column.items()}
+        self.code_lines = {label: text for column in model.lines_of(page).values() for label, text in column.items()}
 
     def places(self) -> list[Place]:
         """The places in question: that of the actor's last step, and that of the model's next."""
@@ -113,15 +112,14 @@ class About:
     def step_text(self, number: int) -> str:
         """A step by its number in the log, its control point, its line and what it did."""
         point, step = self.replay.steps[number - 1]
-        first = number - self.replay.before - 1
-        by = self.replay.lines[first] if first >= 0 else "a step before the start"
+        line = step.event if number > self.replay.before else "a step before the start"
         did = step.did() if step.reply else step.did().removesuffix("; -")
-        return f"step {number}, `{by}` at {point}: {did}"
+        return f"step {number}, `{line}` at {point}: {did}"
 
     def code(self, label: str) -> Iterator[str]:
         """The lines of the pseudo-code of a control point."""
-        for at, text in enumerate(self.lines.get(label, [])):
-            yield f"         {label if not at else '':5}{text}"
+        for number, text in enumerate(self.code_lines.get(label, [])):
+            yield f"         {'' if number else label:5}{text}"
 
     def touched(self, place: Place) -> Iterator[str]:
         """Who wrote a place last, and who touched it since."""
@@ -156,11 +154,11 @@ class About:
     def script(self) -> list[str]:
         """The lines to there, with that of the model's step where it can make one."""
         made = [self.found.record.line()] if self.found.made else []
-        return [*self.replay.lines, *made][: self.found.step - self.replay.before]
+        return [*self.replay.lines(), *made][: self.found.step - self.replay.before]
 
-    def start(self) -> str:
+    def start(self) -> Trace:
         """The start before the step, which is made already where only its reply differs."""
-        made = min(max(0, self.replay.count() - self.found.step + 1), len(self.replay.lines))
+        made = min(max(0, self.replay.count() - self.found.step + 1), self.replay.count() - self.replay.before)
         self.replay.ask([f"back {made}"])
         start = self.replay.start()
         self.replay.ask([f"forward {made}"])
@@ -182,10 +180,10 @@ class About:
         """Writes the files about the difference; returns a line for each."""
         folder.mkdir(parents=True, exist_ok=True)
         script, lines = folder / "to.script", self.script()
-        script.write_text("".join(f"{line}\n" for line in lines), encoding="ascii")
-        yield f"{script}: the {len(lines)} steps to there" + ("" if not self.replay.before else " from from.trace on")
+        script.write_bytes(script_of(lines))
+        yield f"{script}: the {len(lines)} steps to there{' from from.trace on' if self.replay.before else ''}"
         start = folder / "before.trace"
-        start.write_text(self.start(), encoding="ascii")
+        start.write_text(starts.text_of(self.start()), encoding="ascii")
         yield f"{start}: the start before the step"
         options = [str(script), *self.options(folder), "--program", self.replay.program]
         yield self.drawn(picture.main, options, self.windows(self.replay.first + len(lines)), folder / "steps.svg")
@@ -194,21 +192,18 @@ class About:
 
     def windows(self, count: int) -> Iterator[list[str]]:
         """The options that choose the rows of the picture of so many steps: the last ones at the places in
-        question and of the actor, where the picture can choose such rows, and else the last ones."""
-        if "--places" in picture.parser().format_help():
-            yield self.chosen_rows(count)
+        question and of the actor, and else the last ones."""
+        yield self.chosen_rows(count)
         yield ["--from", str(max(1, count - ROWS + 1)), "--to", str(max(1, count))]
 
     def chosen_rows(self, count: int) -> list[str]:
         """The options for the last steps at the places in question and of the actor."""
         actor, places = self.found.record.actor, self.places()
-        steps = self.replay.steps[self.replay.before :]
-        chosen = [
-            number
-            for number, (_, step) in enumerate(steps, 1)
-            if step.event.actor == actor or any(map(step.place.overlaps, places))
-        ]
-        first = self.replay.first + (chosen[-ROWS:] or [1])[0]
+        steps = enumerate((step for _, step in self.replay.steps[self.replay.before :]), self.replay.first + 1)
+        chosen = (
+            number for number, step in steps if step.event.actor == actor or any(map(step.place.overlaps, places))
+        )
+        first = (collections.deque(chosen, ROWS) or [self.replay.first + 1])[0]
         named = ["--places", ",".join(map(str, places))] if places else []
         return ["--from", str(first), "--to", str(max(1, count)), "--actor", str(actor), *named]
 

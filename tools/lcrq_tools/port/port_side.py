@@ -1,8 +1,8 @@
-"""Takes the port's side of a difference, so that a comparison goes on behind it: the world before
-the step is frozen, one of its words is changed, and the run goes on over that start.
+"""Takes the port's side of a difference for `conform.py --go-on`, so that a comparison goes on behind it: the
+world before the step is frozen, one of its words is changed, and the run goes on over that start.
 
 Which change will do is tried through the program: a start has to load, and the step over it has to
-do what the port did. `conform.py --go-on` uses this. Only Python's standard library is used.
+do what the port did.
 """
 
 import copy
@@ -11,12 +11,10 @@ import json
 from collections.abc import Iterator
 from dataclasses import dataclass
 
-from lcrq_tools import program
-from lcrq_tools.start import freeze
-from lcrq_tools.start.flaws import IDLE, Actor, Segment, Start, Trace, with_words
+from lcrq_tools import program, records
 from lcrq_tools.port.port_compare import Comparison, Difference
-from lcrq_tools.records import Actor as ShownActor
 from lcrq_tools.records import Cell, Place, Step, Tail, content_of, is_made
+from lcrq_tools.start.starts import IDLE, WORDS, Actor, Trace, actor_of, segment_names, set_content, text_of, with_words
 
 MOST_WORDS = 2  # that are changed beside the control point
 
@@ -33,50 +31,6 @@ class Change:
 # ---- Changes -------------------------------------------------------------------------------------
 
 
-def put(start: Start, place: Place, content: str) -> None:
-    """Changes what is at a place."""
-    index = place.index or 0
-    match place.kind:
-        case "qhead":
-            start["qhead"] = freeze.name_of(content)
-        case "qtail":
-            start["qtail"] = freeze.name_of(content)
-        case "ahead":
-            start["array"]["head"] = int(content)
-        case "atail":
-            start["array"]["tail"] = int(content)
-        case "acell":
-            others = [slot for slot in start["array"]["cells"] if slot[0] != index]
-            filled = [] if content == "empty" else [freeze.slot_of(index, content)]
-            start["array"]["cells"] = sorted(others + filled)
-        case _:
-            put_into(segment_at(start, place.segment), place.kind, index, content.split(" "))
-
-
-def segment_at(start: Start, name: str) -> Segment:
-    """A segment of a start."""
-    maker, number = freeze.name_of(name)
-    return start["segments"][maker][number]
-
-
-def put_into(segment: Segment, kind: str, cell: int, words: list[str]) -> None:
-    """Changes what is at a place of a segment."""
-    match kind:
-        case "head":
-            segment["head"] = int(words[0])
-        case "tail":
-            segment["closed"] = words[-2] == "closed"
-            segment["tail"] = int(words[-1]) if words[-1].isdecimal() else segment["tail"]
-        case "next":
-            segment["next"] = freeze.or_null(words[0], freeze.name_of)
-        case "value":
-            segment["cells"][cell][2] = freeze.value_of(words[0])
-        case "index":
-            segment["cells"][cell][:2] = [freeze.bit_of(words[0]), int(words[1])]
-        case "cell":
-            segment["cells"][cell] = freeze.cell_of(" ".join(words))
-
-
 def one_word(actor: Actor) -> list[tuple[str, object]]:
     """Words that may keep an actor from being at another control point, with other values."""
     bits = [(word, value) for word in ("safe", "closed") for value in (False, True)]
@@ -90,7 +44,7 @@ class Side:
     def __init__(self, comparison: Comparison, found: Difference):
         self.comparison, self.found, self.replay = comparison, found, comparison.replay
         self.actor = found.record.actor
-        self.world: Trace = json.loads(self.replay.start())
+        self.world = self.replay.start()
 
     def take(self) -> str:
         """Takes it; returns what was changed, or nothing if no change will do."""
@@ -126,7 +80,7 @@ class Side:
         """The actor at another control point, with other words where these don't fit it."""
         actor = self.world["start"]["actors"][self.actor - 1]
         if actor["pc"] == "Idle" and self.actor in self.comparison.states_before:
-            actor = freeze.actor_of(self.comparison.states_before[self.actor])
+            actor = actor_of(self.comparison.states_before[self.actor])
         for count in range(most + 1):
             for words in itertools.combinations(one_word(actor), count):
                 others = [f"{word} {json.dumps(value)}" for word, value in words]
@@ -140,7 +94,7 @@ class Side:
         for content in self.contents_of(place, before):
             changed = copy.deepcopy(self.world)
             try:
-                put(changed["start"], place, content)
+                set_content(changed["start"], place, content)
             except (ValueError, LookupError, TypeError):
                 continue
             lost = self.found.port == "lost" or self.found.kind == "access" and self.found.port == "read"
@@ -152,8 +106,7 @@ class Side:
         answer = self.comparison.names.meant(self.found.record.answer)
         if answer and answer not in ("won", "lost"):
             yield answer
-        makers = enumerate(self.world["start"]["segments"])
-        names = [f"{maker}.{number}" for maker, made in makers for number in range(len(made))]
+        names = [name for name, _, _ in segment_names(self.world["start"])]
         if place.kind in ("qhead", "qtail", "next"):
             yield from dict.fromkeys([words["crq"], "none", words["next"], words["new"], *names])
         elif place.kind == "tail":
@@ -168,55 +121,51 @@ class Side:
     def is_taken_by(self, change: Change) -> bool:
         """Whether the record's step over a changed start takes the port's side of this difference."""
         record, file = self.found.record, self.replay.folder / "tried.trace"
-        file.write_text(json.dumps(change.start), encoding="ascii")
-        step = ["step 1"] if record.kind == "step" else []
-        lines = [f"actor {self.actor}", record.line(), *step, f"actor {self.actor}"]
-        script = "".join(f"{line}\n" for line in lines).encode("ascii")
+        file.write_text(text_of(change.start), encoding="ascii")
+        script = program.script_of([f"actor {self.actor}", *record.asked(1)])
         ended = program.run([self.replay.program, "load", "--", str(file)], script)
         replies = ended.output.decode("ascii").splitlines()
         if ended.status or not is_made(replies[1]):
             return False
         if record.kind == "call" or record.label and self.found.kind == "line":
             return True
-        found = self.comparison.compare_made(record, Step.read(replies[2]), ShownActor.read(replies[3]))
+        found = self.comparison.compare_made(record, Step.read(replies[2]), records.Actor.read(replies[3]))
         return not found or found.kind in ("reply", "words")
 
     def go_on(self, change: Change) -> str:
         """Goes on over a changed start. What the step only had to find is put back behind it."""
-        self.replay.open_start(json.dumps(change.start))
+        self.replay.open_start(change.start)
         if change.restored:
             self.make_step()
-            world: Trace = json.loads(self.replay.start())
-            put(world["start"], *change.restored)
-            self.replay.open_start(json.dumps(world))
+            world = self.replay.start()
+            set_content(world["start"], *change.restored)
+            self.replay.open_start(world)
         return change.said
 
     def make_step(self) -> None:
         """Makes the step of the record, as the model makes it."""
-        record = self.found.record
-        _, made, state = self.replay.ask([record.line(), f"step {self.replay.live() + 1}", f"actor {self.actor}"])
-        point = self.replay.states[self.actor - 1].point
-        self.comparison.note(record, point, Step.read(made), ShownActor.read(state))
-        self.comparison.at += 1
+        _, made, state = self.replay.ask(self.found.record.asked(self.replay.live() + 1))
+        self.comparison.note(self.found.record, Step.read(made), records.Actor.read(state))
+        self.comparison.next += 1
 
     def take_words(self) -> str:
         """Lets the actor have the port's word after the step."""
         self.make_step()
-        world: Trace = json.loads(self.replay.start())
+        world = self.replay.start()
         word, _, value = self.found.port.partition(" ")
         actors = world["start"]["actors"]
         try:
-            actors[self.actor - 1] = with_words(actors[self.actor - 1], {word: freeze.WORDS[word](value)})
+            actors[self.actor - 1] = with_words(actors[self.actor - 1], {word: WORDS[word](value)})
         except ValueError:
             return ""
-        self.replay.open_start(json.dumps(world))
+        self.replay.open_start(world)
         return self.found.port
 
     def take_reply(self) -> str:
         """Lets the call be over, as the port has it."""
-        self.comparison.at += 1
+        self.comparison.next += 1
         if self.found.state.is_idle():
             return "nothing: both calls are over"
         change = self.with_actor(IDLE, "the actor is in no call")
-        self.replay.open_start(json.dumps(change.start))
+        self.replay.open_start(change.start)
         return change.said

@@ -38,8 +38,8 @@ def opened(pipe: Path, build: subprocess.Popen[bytes]) -> int:
         except OSError:  # nobody reads it yet
             time.sleep(LOOK_EVERY)
     assert build.stderr  # a pipe
-    said = build.stderr.read().decode(errors="replace").strip()
-    raise NotBuilt(f"`rt try` ended before the program ran: {said.splitlines()[-1] if said else build.returncode}")
+    errors = build.stderr.read().decode(errors="replace").strip()
+    raise NotBuilt(f"`rt try` ended before the program ran: {errors.splitlines()[-1] if errors else build.returncode}")
 
 
 def program_in(folder: Path) -> Path:

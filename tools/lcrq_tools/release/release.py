@@ -5,9 +5,8 @@
 
 In it are the program, its man page made of docs/MANUAL.md, a page of HTML each for manual, recipes,
 model, guide and lessons with their pictures in them, the examples with a report of each script that
-one run has, and a page of the run where tools/page.py is there, the scripts that the pages name
-with what they import, the JSON Schema of traces, and a README. `release_pages.py` makes the
-pages.
+one run has, and a page of the run, the scripts that the pages name with what they import, the JSON
+Schema of traces, and a README. `release_pages.py` makes the pages.
 
 `--lessons` leaves all other lessons out, and their examples. `--answers` has the answers to the
 exercises with them, apart on a page of their own, docs/answers.html, or not at all. `--pdf` also
@@ -20,6 +19,7 @@ status is 1, with the reason in one line, where that, the program or a picture i
 """
 
 import argparse
+import fnmatch
 import gzip
 import io
 import os
@@ -49,9 +49,25 @@ BROWSERS = ("chromium", "chromium-browser", "google-chrome")
 
 # What a page says of how a script is run.
 VIEWED = re.compile(r"lcrqdb view ((?:[\w.-]+\.script ?)+)")
-LOADED = re.compile(r"lcrqdb load ([\w.-]+)\.trace < ([\w.-]+)\.script")
+LOADED = re.compile(r"lcrqdb load ([\w.-]+)\.trace < ([\w.-]+\.script)")
 WITH = re.compile(r"^Run with: (.*)$", re.MULTILINE)
 
+# What the README says of the files that are there.
+CONTENTS = """\
+bin/lcrqdb                the program, for Linux on x86-64; it needs the C library alone
+docs/guide.html           from a whiteboard to the step to blame, in 30 minutes: begin here
+docs/lessons.html         lessons{numbers} on concurrent queues, for teachers
+docs/answers.html         the answers to their exercises
+docs/manual.html          every line and every reply; share/man/ has it as a man page
+docs/recipes.html         commands to print, draw and compare runs, and to write a start
+docs/model.html           the queue and the simulated machine
+docs/*.pdf                guide, lessons and answers to print; a PDF has other bytes each time that it is made
+docs/*.md                 what the scripts read of manual and model
+docs/trace.schema.json    a JSON Schema of traces, for an editor and for schema.py
+examples/                 the scripts and traces of these pages, with their pictures; each script that
+                          runs alone has its report and a page of its run
+tools/                    scripts that draw a run, and more: {scripts}
+"""
 README = """\
 lcrqdb {version}: a causal reversible debugger for LCRQ
 
@@ -73,11 +89,11 @@ jsonschema. They draw a run of yours, in any folder:
 
     cp session.script mine.script
     picture.py mine.script -o mine.svg
-{a_page}
+    page.py mine.script -o mine.html
+
 Or `pip install ./tools` in this folder, which needs no network, has them without that PATH: `lcrq`
 lists them, and `lcrq picture` is picture.py.
 """
-A_PAGE = "    page.py mine.script -o mine.html\n"
 
 # ---- Runs of the examples ------------------------------------------------------------------------
 
@@ -91,25 +107,18 @@ class Run:
     options: tuple[str, ...]
 
 
-def texts_of(choice: Choice) -> dict[Path, str]:
-    """The pages that say how scripts are run, with their texts."""
-    sources = [path for sources in choice.pages().values() for path in sources]
-    return {path: path.read_text(encoding="utf-8") for path in sources}
-
-
 def runs_of(choice: Choice) -> list[Run]:
     """The chosen scripts that are run one at a time, as their pages say."""
-    texts = texts_of(choice)
+    texts = {path.stem: path.read_text(encoding="utf-8") for paths in choice.pages().values() for path in paths}
     whole = "\n".join(texts.values())
     viewed = {name for names in VIEWED.findall(whole) for name in names.split()}
-    over = {f"{script}.script": trace for trace, script in LOADED.findall(whole)}
+    over = {script: trace for trace, script in LOADED.findall(whole)}
     runs = []
     for script in sorted(EXAMPLES.glob("*.script")):
         if script.name in viewed or not is_chosen(script, choice):
             continue
         own = script.stem if script.with_suffix(".trace").is_file() else None
-        page = next((text for path, text in texts.items() if script.name.startswith(f"{path.stem}.")), "")
-        options = WITH.search(page)
+        options = WITH.search(texts.get(script.stem, ""))
         runs.append(Run(script, over.get(script.name, own), tuple(options[1].split()) if options else ()))
     return runs
 
@@ -161,8 +170,7 @@ def examples_of(built: str, choice: Choice) -> dict[str, bytes]:
             if run.trace:
                 (folder / f"{run.trace}.trace").write_bytes(trace_of(built, run.trace))
             files[f"{run.script.stem}.report"] = report_of(built, run, folder)
-            if (TOOLS / "page.py").is_file():
-                files[f"{run.script.stem}.html"] = run_page_of(built, run, folder)
+            files[f"{run.script.stem}.html"] = run_page_of(built, run, folder)
     return files
 
 
@@ -190,7 +198,7 @@ def needed_by(path: Path) -> list[Path]:
         module = TOOLS.joinpath(*package.split("."))
         within = [module / f"{name}.py" for name in re.findall(r"\w+", " ".join(names))]
         beside += [module.with_suffix(".py"), module / "__init__.py", *within]
-    return sorted(it for it in beside if it.is_file())
+    return sorted(file for file in beside if file.is_file())
 
 
 def scripts_of(texts: list[str]) -> dict[str, bytes]:
@@ -265,8 +273,7 @@ def version_of(built: str) -> str:
 def last_commit() -> int:
     """When the last commit was made, in seconds; 0 where that isn't known."""
     try:
-        ended = program.run(["git", "-C", str(TOP), "log", "-1", "--format=%ct"])
-        return int(ended.output)
+        return int(program.run(["git", "-C", str(TOP), "log", "-1", "--format=%ct"]).output)
     except (OSError, ValueError):
         return 0
 
@@ -274,28 +281,14 @@ def last_commit() -> int:
 def readme(version: str, choice: Choice, files: dict[str, bytes]) -> str:
     """The README of an archive with these files."""
     numbers = "" if choice.is_all else " " + ", ".join(map(str, choice.lessons))
-    has_pages = "tools/page.py" in files
     pages = [data.decode() for path, data in files.items() if path.endswith(".html")]
     scripts = ", ".join(sorted({path.name for page in pages for path in named_in(page)}))
-    rows = {
-        "bin/lcrqdb": "the program, for Linux on x86-64; it needs the C library alone",
-        "docs/guide.html": "from a whiteboard to the step to blame, in 30 minutes: begin here",
-        "docs/lessons.html": f"lessons{numbers} on concurrent queues, for teachers",
-        "docs/answers.html": "the answers to their exercises",
-        "docs/manual.html": "every line and every reply; share/man/ has it as a man page",
-        "docs/recipes.html": "commands to print, draw and compare runs, and to write a start",
-        "docs/model.html": "the queue and the simulated machine",
-        "docs/*.pdf": "guide, lessons and answers to print; a PDF has other bytes each time that it is made",
-        "docs/*.md": "what the scripts read of manual and model",
-        "docs/trace.schema.json": "a JSON Schema of traces, for an editor and for schema.py",
-        "examples/*": "the scripts and traces of these pages, with their pictures; each script that",
-        "tools/*": f"scripts that draw a run, and more: {scripts}",
-    }
-    more = {"examples/*": f"runs alone has its report{' and a page of its run' if has_pages else ''}"}
-    has = [row for row in rows if any(Path(name).match(row) for name in files)]
-    lines = [line for row in has for line in ((row.removesuffix("*"), rows[row]), ("", more.get(row)))]
-    contents = "\n".join(f"{row if row else '':<26}{about}" for row, about in lines if about)
-    return README.format(version=version, contents=contents, a_page=A_PAGE if has_pages else "")
+    lines, is_there = [], False
+    for line in CONTENTS.splitlines():
+        if pattern := line.partition(" ")[0]:
+            is_there = any(fnmatch.fnmatch(name, f"{pattern}*") for name in files)
+        lines += [line.format(numbers=numbers, scripts=scripts)] if is_there else []
+    return README.format(version=version, contents="\n".join(lines))
 
 
 def files_of(built: str, version: str, seconds: int, choice: Choice, with_pdf: bool) -> dict[str, bytes]:
@@ -303,7 +296,7 @@ def files_of(built: str, version: str, seconds: int, choice: Choice, with_pdf: b
     examples = examples_of(built, choice)
     run_pages = sorted(name for name in examples if name.endswith(".html"))
     files = {f"docs/{page}.html": page_of(page, version, choice, run_pages) for page in choice.pages()}
-    scripts = scripts_of([*(page.decode() for page in files.values()), README, A_PAGE if run_pages else ""])
+    scripts = scripts_of([*(page.decode() for page in files.values()), README])
     files |= scripts | pages_read_by(scripts, choice)
     files |= {str(path.relative_to(TOP)): path.read_bytes() for path in INSTALLED}
     files |= {f"examples/{name}": data for name, data in examples.items()}
@@ -320,10 +313,10 @@ def archive_of(files: dict[str, bytes], folder: str, seconds: int) -> bytes:
     packed = io.BytesIO()
     with tarfile.open(fileobj=packed, mode="w", format=tarfile.USTAR_FORMAT) as archive:
         for name, data in sorted(files.items()):
-            entry = tarfile.TarInfo(f"{folder}/{name}")
-            entry.size, entry.mtime = len(data), seconds
-            entry.mode = 0o755 if name.startswith("bin/") or data.startswith(b"#!") else 0o644
-            archive.addfile(entry, io.BytesIO(data))
+            packed_file = tarfile.TarInfo(f"{folder}/{name}")
+            packed_file.size, packed_file.mtime = len(data), seconds
+            packed_file.mode = 0o755 if name.startswith("bin/") or data.startswith(b"#!") else 0o644
+            archive.addfile(packed_file, io.BytesIO(data))
     return gzip.compress(packed.getvalue(), mtime=seconds)
 
 
@@ -338,42 +331,40 @@ def lessons_in(text: str) -> tuple[int, ...]:
     return tuple(sorted(set(map(int, words))))
 
 
-def read_options() -> argparse.Namespace:
+def parser() -> Parser:
     """The command line."""
     parser = Parser(__doc__, "--lessons 5,14,15 --answers apart")
-    parser.add_argument("-o", dest="folder", default=".", metavar="FOLDER", help="where it goes (this folder)")
-    lessons = "these lessons alone"
-    parser.add_argument("--lessons", type=lessons_in, default=tuple(LESSONS), metavar="N,N..", help=lessons)
+    add = parser.add_argument
+    add("-o", dest="folder", type=Path, default=".", metavar="FOLDER", help="where it goes (this folder)")
+    add("--lessons", type=lessons_in, default=tuple(LESSONS), metavar="N,N..", help="these lessons alone")
     about = "where the answers to exercises are: with them (so if left out), apart on a page, or nowhere"
-    parser.add_argument("--answers", choices=("with", "apart", "none"), default="with", help=about)
-    parser.add_argument("--pdf", action="store_true", help="print guide, lessons and answers, too")
+    add("--answers", choices=("with", "apart", "none"), default="with", help=about)
+    add("--pdf", action="store_true", help="print guide, lessons and answers, too")
     add_program(parser)
-    return parser.parse_args()
+    return parser
 
 
-def write(given: argparse.Namespace, version: str, files: dict[str, bytes], seconds: int) -> None:
-    """Writes the archive, and beside it what is printed; prints the path of each."""
-    choice, folder, out = Choice(given.lessons, given.answers), f"lcrqdb-{version}-x86_64", Path(given.folder)
-    if not choice.is_all:
-        folder += "-lessons-" + "-".join(map(str, choice.lessons))
-    made = {f"{folder}.tar.gz": archive_of(files, folder, seconds)}
-    made |= {f"{folder}-{Path(name).name}": data for name, data in files.items() if name.endswith(".pdf")}
-    for name, data in made.items():
-        (out / name).write_bytes(data)
-        print(out / name)
+def write(out: Path, name: str, files: dict[str, bytes], seconds: int) -> None:
+    """Writes the archive of this name, and beside it what is printed; prints the path of each."""
+    made = {f"{name}.tar.gz": archive_of(files, name, seconds)}
+    made |= {f"{name}-{Path(path).name}": data for path, data in files.items() if path.endswith(".pdf")}
+    for path, data in made.items():
+        (out / path).write_bytes(data)
+        print(out / path)
 
 
 def main() -> int:
     """Makes the archive that the command line asks for."""
-    given = read_options()
+    given = parser().parse_args()
     if not shutil.which("pandoc"):
         raise Fault("the pages are made by pandoc: install Debian's package pandoc")
     if given.pdf:
         printer()
     built: str = given.program
-    version, seconds = version_of(built), last_commit()
-    files = files_of(built, version, seconds, Choice(given.lessons, given.answers), given.pdf)
+    choice, version, seconds = Choice(given.lessons, given.answers), version_of(built), last_commit()
+    files = files_of(built, version, seconds, choice, given.pdf)
     if program.is_unproved(files["bin/lcrqdb"]):
         say(f"{built} is not proved: this archive is to try out")
-    write(given, version, files, seconds)
+    chosen = "" if choice.is_all else "-lessons-" + "-".join(map(str, choice.lessons))
+    write(given.folder, f"lcrqdb-{version}-x86_64{chosen}", files, seconds)
     return 0

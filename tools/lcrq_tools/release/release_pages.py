@@ -17,7 +17,7 @@ import json
 import mimetypes
 import re
 import tempfile
-from collections.abc import Callable
+from collections.abc import Callable, Iterator
 from dataclasses import dataclass
 from pathlib import Path
 from string import Template
@@ -87,6 +87,7 @@ def read_for(choice: Choice, source: Path) -> str:
 
 # ---- Documents -----------------------------------------------------------------------------------
 
+PLAIN = ["", [], []]  # the attributes of an element without any
 Json = Any  # a part of a document, as pandoc writes it: what an element has is another thing for each kind
 
 
@@ -113,59 +114,47 @@ def pandoc(words: list[str], given: bytes) -> bytes:
 
 def changed(value: Json, change: Callable[[Element], Element]) -> Json:
     """A part of a document with what `change` makes of each of its elements, inner ones first."""
-    if type(value) is list:
-        return [changed(it, change) for it in value]
-    if type(value) is not dict:
+    if isinstance(value, list):
+        return [changed(part, change) for part in value]
+    if not isinstance(value, dict):
         return value
-    inside: Json = {key: changed(it, change) for key, it in value.items()}
+    inside: Json = {key: changed(part, change) for key, part in value.items()}
     return change(inside) if "t" in inside else inside
+
+
+def elements_in(value: Json) -> Iterator[Json]:
+    """The elements of a part of a document, outer ones first."""
+    if isinstance(value, dict):
+        yield value
+        value = value.get("c")
+    for part in value if isinstance(value, list) else []:
+        yield from elements_in(part)
 
 
 def text_in(value: Json) -> str:
     """The text of a part of a document."""
-    if type(value) is list:
-        return "".join(map(text_in, value))
-    if type(value) is not dict:
-        return ""
-    inside: Json = value.get("c")
-    kind = value["t"]
-    if kind in ("Space", "SoftBreak", "LineBreak"):
-        return " "
-    if kind in ("Str", "Code"):
-        text: str = inside if kind == "Str" else inside[1]
-        return text
-    return text_in(inside)
+    text = ""
+    for part in elements_in(value):
+        if part["t"] in ("Str", "Code"):
+            text += part["c"] if part["t"] == "Str" else part["c"][1]
+        elif part["t"] in ("Space", "SoftBreak", "LineBreak"):
+            text += " "
+    return text
 
 
-def links_in(value: Json) -> list[str]:
-    """Where the links of a part of a document lead."""
-    if type(value) is list:
-        return [url for it in value for url in links_in(it)]
-    if type(value) is not dict:
-        return []
-    if value.get("t") == "Link":
-        return [value["c"][2][0]]
-    return links_in(value.get("c"))
+def element(kind: str, *content: Json) -> Element:
+    """An element of a document."""
+    return {"t": kind, "c": [*content]}
 
 
 def span(inlines: list[Element]) -> Element:
     """Inlines as one element."""
-    return {"t": "Span", "c": [["", [], []], inlines]}
+    return element("Span", PLAIN, inlines)
 
 
 def words(text: str) -> list[Element]:
     """A text as inlines."""
     return [{"t": "Str", "c": text}]
-
-
-def link_to(url: str, text: str) -> Element:
-    """A link."""
-    return {"t": "Link", "c": [["", [], []], words(text), [url, ""]]}
-
-
-def header(level: int, name: str, inlines: list[Element]) -> Element:
-    """A heading."""
-    return {"t": "Header", "c": [level, [name, [], []], inlines]}
 
 
 # ---- A page of the repository in a page of the archive -------------------------------------------
@@ -233,16 +222,15 @@ class Part:
     def text_of(self, link: Element) -> list[Element]:
         """The text of a link. Where that is the name of a page of the repository, it is the name of
         the page in the archive."""
-        inlines: list[Element]
-        _, inlines, (url, _) = link["c"]
-        page = self.page_of(self.file_of(url))
+        inlines: list[Element] = link["c"][1]
+        page = self.page_of(self.file_of(link["c"][2][0]))
         return words(f"{page}.html") if text_in(inlines).endswith(".md") and page else inlines
 
     def linked(self, link: Element) -> Element:
         """A link as it is on a page of the archive."""
         attributes, _, (url, title) = link["c"]
         target, text = self.target_of(url), self.text_of(link)
-        return {"t": "Link", "c": [attributes, text, [target, title]]} if target else span(text)
+        return element("Link", attributes, text, [target, title]) if target else span(text)
 
     def with_picture(self, image: Element) -> Element:
         """An image with its picture in it."""
@@ -252,46 +240,47 @@ class Part:
         except OSError as fault:
             raise Fault(f"{self.source}: its picture {url} can't be read: {fault.strerror}") from fault
         inside = f"data:{mimetypes.guess_type(url)[0]};base64,{data}"
-        return {"t": "Image", "c": [attributes, inlines, [inside, title]]}
+        return element("Image", attributes, inlines, [inside, title])
 
     def with_chosen(self, table: Element) -> Element:
         """A table without the rows that lead to lessons that are not chosen."""
         *others, bodies, foot = table["c"]
         left_out = {path for number, path in LESSONS.items() if number not in self.choice.lessons}
-        kept = [
-            [*body[:3], [row for row in body[3] if not left_out.intersection(map(self.file_of, links_in(row)))]]
-            for body in bodies
-        ]
-        return {"t": "Table", "c": [*others, kept, foot]}
 
-    def for_page(self, element: Element) -> Element:
+        def is_kept(row: Json) -> bool:
+            """Whether no link of a row leads to a lesson that is left out."""
+            links = (part["c"][2][0] for part in elements_in(row) if part["t"] == "Link")
+            return left_out.isdisjoint(map(self.file_of, links))
+
+        return element("Table", *others, [[*body[:3], [*filter(is_kept, body[3])]] for body in bodies], foot)
+
+    def for_page(self, part: Json) -> Element:
         """An element as its page has it. Lessons are below the heading of their page, a browser
         finds the widths of columns itself, code has no colours, and a short one no end of a line in
         it."""
-        kind = element["t"]
-        inside: Json = element.get("c")
-        if kind == "Link":
-            return self.linked(element)
-        if kind == "Image":
-            return self.with_picture(element)
-        if kind == "Header":
-            level, (name, *attributes), inlines = inside
-            is_first = self.is_first(self.source)
-            name = self.anchor(self.source, name if level > 1 or is_first else "")
-            return {"t": kind, "c": [level if is_first else level + 1, [name, *attributes], inlines]}
-        if kind == "ColWidth":
-            return {"t": "ColWidthDefault"}
-        if kind == "Code":
-            return {"t": kind, "c": [["", ["short"] if len(inside[1]) <= SHORT else [], []], inside[1]]}
-        if kind == "CodeBlock":
-            return {"t": kind, "c": [["", [], [["language", *inside[0][1]]] if inside[0][1] else []], inside[1]]}
-        return element
+        match part:
+            case {"t": "Link"}:
+                return self.linked(part)
+            case {"t": "Image"}:
+                return self.with_picture(part)
+            case {"t": "Header", "c": [level, [name, *attributes], inlines]}:
+                is_first = self.is_first(self.source)
+                name = self.anchor(self.source, name if level > 1 or is_first else "")
+                return element("Header", level if is_first else level + 1, [name, *attributes], inlines)
+            case {"t": "ColWidth"}:
+                return {"t": "ColWidthDefault"}
+            case {"t": "Code", "c": [_, text]}:
+                return element("Code", ["", ["short"] if len(text) <= SHORT else [], []], text)
+            case {"t": "CodeBlock", "c": [[_, classes, _], text]}:
+                return element("CodeBlock", ["", [], [["language", *classes]] if classes else []], text)
+        unchanged: Element = part
+        return unchanged
 
     def blocks(self) -> list[Element]:
         """Its blocks on the page of the archive."""
         whole = self.document()["blocks"]
         if self.source == EXAMPLES / "README.md":
-            whole = [self.with_chosen(it) if it["t"] == "Table" else it for it in whole]
+            whole = [self.with_chosen(block) if block["t"] == "Table" else block for block in whole]
         blocks: list[Element] = changed(whole, self.for_page)
         is_lesson = self.source in LESSONS.values()
         if self.page == "answers":
@@ -319,7 +308,7 @@ def is_chosen(path: Path, choice: Choice) -> bool:
 
 def bounds_of_answer(blocks: list[Element]) -> tuple[int, int]:
     """Where the folded answer of a lesson begins and ends."""
-    html = [it["c"][1].strip() if it["t"] == "RawBlock" else "" for it in blocks]
+    html = [block["c"][1].strip() if block["t"] == "RawBlock" else "" for block in blocks]
     if html.count(ANSWER) != 1:
         raise Fault(f"{text_in(blocks[0])}: it has {html.count(ANSWER)} folded answers")
     begin = html.index(ANSWER)
@@ -335,8 +324,8 @@ def without_answers(blocks: list[Element]) -> list[Element]:
 def answers_in(blocks: list[Element]) -> list[Element]:
     """A lesson's exercise and its answer, under the lesson's heading."""
     begin, end = bounds_of_answer(blocks)
-    exercise = max(at for at, it in enumerate(blocks[:begin]) if it["t"] == "Header") + 1
-    answer: Element = {"t": "Para", "c": [{"t": "Strong", "c": words("Answer")}]}
+    exercise = max(index for index, block in enumerate(blocks[:begin]) if block["t"] == "Header") + 1
+    answer = element("Para", element("Strong", *words("Answer")))
     return [blocks[0], *blocks[exercise:begin], answer, *blocks[begin + 1: end]]
 
 
@@ -357,23 +346,17 @@ def page_of(page: str, version: str, choice: Choice, run_pages: list[str]) -> by
     whole = Part(choice, page, choice.pages()[page][0]).document()
     blocks: list[Element] = []
     if page == "answers":
-        blocks.append(header(1, "answers", words("Answers to the exercises")))
+        blocks.append(element("Header", 1, ["answers", [], []], words("Answers to the exercises")))
     for source in choice.pages()[page]:
-        part = Part(choice, page, source).blocks()
-        runs = [name for name in run_pages if source in LESSONS.values() and name.startswith(source.stem)]
-        blocks.append(part[0])
-        if runs and page == "lessons":
-            links = [link_to(f"../examples/{name}", name) for name in runs]
-            blocks.append({"t": "Para", "c": [*words("Step by step: "), *joined(links)]})
-        blocks += part[1:]
+        first, *others = Part(choice, page, source).blocks()
+        is_lesson = page == "lessons" and source in LESSONS.values()
+        runs = [name for name in run_pages if is_lesson and name.startswith(source.stem)]
+        links = [element("Link", PLAIN, words(name), [f"../examples/{name}", ""]) for name in runs]
+        line = [inline for link in links for inline in (*words(", "), link)][1:]
+        blocks += [first, *([element("Para", *words("Step by step: "), *line)] if line else []), *others]
     with tempfile.NamedTemporaryFile("w", suffix=".html", encoding="utf-8") as template:
         template.write(template_of(page, choice))
         template.flush()
         options = ["-f", "json", "-t", "html5", "--standalone", f"--template={template.name}"]
         options += ["--toc", "--toc-depth=2", "-M", f"pagetitle=lcrqdb {version}: {page}"]
         return pandoc(options, json.dumps({**whole, "blocks": blocks}).encode())
-
-
-def joined(links: list[Element]) -> list[Element]:
-    """Links as one line of text."""
-    return [it for link in links for it in (*words(", "), link)][1:]

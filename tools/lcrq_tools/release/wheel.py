@@ -36,7 +36,7 @@ def metadata() -> str:
     names = {"Name": "name", "Version": "version", "Summary": "description", "Requires-Python": "requires-python"}
     lines = ["Metadata-Version: 2.1", *(f"{name}: {given[key]}" for name, key in names.items())]
     for extra, needs in given["optional-dependencies"].items():
-        lines += [f"Provides-Extra: {extra}", *(f'Requires-Dist: {it}; extra == "{extra}"' for it in needs)]
+        lines += [f"Provides-Extra: {extra}", *(f'Requires-Dist: {need}; extra == "{extra}"' for need in needs)]
     return "\n".join([*lines, ""])
 
 

@@ -15,16 +15,15 @@ written; 0 whatever became of the values. Only Python's standard library is used
 
 import argparse
 import collections
-import itertools
 import random
-from collections.abc import Iterator
 from pathlib import Path
 
 from lcrq_tools import program
 from lcrq_tools.faults import Fault, Parser
 from lcrq_tools.options import add_program
 from lcrq_tools.program import Broken, Driven
-from lcrq_tools.records import Actor, Made, content_of, read_reply
+from lcrq_tools.records import Made, read_reply
+from lcrq_tools.start.starts import Asked, values_in
 
 MOST_STEPS = 20_000  # of a continuation
 
@@ -38,29 +37,15 @@ class Continuation:
         self.taken: collections.Counter[str] = collections.Counter()
         with Driven([program_path, "load", "--", trace]) as driven:
             self.driven = driven
-            self.there = collections.Counter(self.values())
-            self.go_on()
+            start = Asked(driven.ask_all).trace()["start"]
+            self.there = collections.Counter(map(str, values_in(start, ("enq",))))
+            self.go_on([number for number, actor in enumerate(start["actors"], 1) if actor["pc"] != "Idle"])
             while self.take():
                 pass
 
     def ask(self, line: str) -> str:
         """The reply to a line."""
         return self.driven.ask(line)[0]
-
-    def all_of(self, line: str, first: int = 0) -> Iterator[str]:
-        """The replies to a line with this number and each one after it, up to one that is refused."""
-        replies = (self.ask(line.format(number)) for number in itertools.count(first))
-        return itertools.takewhile(lambda reply: not reply.startswith("refused "), replies)
-
-    def values(self) -> Iterator[str]:
-        """The values in cells and in the calls of enqueues."""
-        actors = [Actor.read(reply) for reply in self.all_of("actor {}", 1)]
-        self.actors = range(1, len(actors) + 1)
-        yield from (actor.call.removeprefix("enq ") for actor in actors if actor.call_word() == "enq")
-        for maker in range(len(actors) + 1):
-            for number, _ in enumerate(self.all_of(f"show whole {maker}.{{}}")):
-                cells = self.all_of(f"show value {maker}.{number} {{}}")
-                yield from (content_of(cell) for cell in cells if cell != "is none")
 
     def make(self, line: str) -> str:
         """Makes a step; returns what its call replied, `-` where it goes on, or nothing if it is refused."""
@@ -78,16 +63,15 @@ class Continuation:
         """Lets an actor make its next step; returns what its call replied, or `-`."""
         return self.make(f"go {actor}") or self.make(f"starve {actor} {self.chance.choice(['yes', 'no'])}")
 
-    def go_on(self) -> None:
-        """Goes on until no actor is in a call."""
-        able = [actor for actor in self.actors if not Actor.read(self.ask(f"actor {actor}")).is_idle()]
-        while able:
-            actor = self.chance.choice(able)
+    def go_on(self, actors: list[int]) -> None:
+        """Goes on until none of these actors is in a call."""
+        while actors:
+            actor = self.chance.choice(actors)
             reply = self.step(actor)
             if not reply:
                 raise Broken(f"actor {actor} can't go on: {self.ask(f'go {actor}')}")
             if reply != "-":
-                able.remove(actor)
+                actors.remove(actor)
 
     def take(self) -> bool:
         """Lets actor 1 dequeue; returns whether it took a value."""
@@ -98,26 +82,22 @@ class Continuation:
 
     def outcome(self) -> str:
         """What became of the values."""
-        lost, again = self.there - self.taken, self.taken - self.there
-        rows = (lost, "never taken"), (again, "taken too often")
-        said = [f"{', '.join(sorted(it.elements(), key=int))} {what}" for it, what in rows if it]
-        count = self.there.total()
-        return "; ".join(said) or f"all taken, each once: {count} value{'' if count == 1 else 's'}"
+        rows = (self.there - self.taken, "never taken"), (self.taken - self.there, "taken too often")
+        faults = [f"{', '.join(sorted(values.elements(), key=int))} {what}" for values, what in rows if values]
+        return "; ".join(faults) or f"all taken, each once: {program.counted(self.there.total(), 'value')}"
 
 
 def go_on(given: argparse.Namespace) -> None:
     """Makes the continuations, and prints what became of the values."""
-    first: int = given.seed
-    runs: int = given.runs
     output: Path | None = given.output
     outcomes: dict[str, list[int]] = {}
-    for seed in range(first, first + runs):
-        it = Continuation(given.program, given.trace, seed)
-        if seed == first and output:
-            output.write_text("".join(f"{line}\n" for line in it.lines), encoding="ascii")
-        outcomes.setdefault(it.outcome(), []).append(seed)
+    for seed in range(given.seed, given.seed + given.runs):
+        continued = Continuation(given.program, given.trace, seed)
+        if seed == given.seed and output:
+            output.write_bytes(program.script_of(continued.lines))
+        outcomes.setdefault(continued.outcome(), []).append(seed)
     for outcome, seeds in sorted(outcomes.items(), key=lambda row: -len(row[1])):
-        print(f"{len(seeds)} of {runs} continuations, the first of seed {seeds[0]}: {outcome}")
+        print(f"{len(seeds)} of {given.runs} continuations, the first of seed {seeds[0]}: {outcome}")
 
 
 def main() -> int:

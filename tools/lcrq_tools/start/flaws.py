@@ -1,90 +1,24 @@
-"""Finds the part of a start that is to blame where `lcrqdb load` answers `Flaw N`.
+"""Finds for `freeze.py --check` the part of a start that is to blame where `lcrqdb load` answers `Flaw N`.
 
 All parts that may have the flaw are made plain, an idle actor or an empty ring, and brought back one
 by one: the first with which the program answers this flaw again is named, with the condition of
-docs/MODEL.md. `python3 tools/freeze.py --check TRACE` uses this. Only Python's standard library is
-used, and each trial is a run of the program.
+docs/MODEL.md. Each trial is a run of the program.
 """
 
 import copy
-import functools
 import json
 import re
 import tempfile
-from collections.abc import Callable, Iterator, Mapping
+from collections.abc import Iterator
 from pathlib import Path
-from typing import Literal, TypedDict, cast
+from typing import Any, NamedTuple
 
-from lcrq_tools import model, program
+from lcrq_tools import markdown, model, program
+from lcrq_tools.records import WORDS
+from lcrq_tools.start.starts import EMPTY, ENDS, IDLE, ROOT, Start, Trace, segment_names, with_words
 
-# ---- A trace, as its JSON is ---------------------------------------------------------------------
-
-Name = list[int]  # of a segment: its maker, and its number among those of this maker
-Cell = list[int | None]  # its safe bit, its index and its value
-Slot = list[int | str]  # of the array: where it is, and its value or `top`
-End = Literal["qhead", "qtail"]
-
-# An actor: its control point, its call and its words.
-Actor = TypedDict(
-    "Actor",
-    {
-        "pc": str, "op": list[str | int] | None, "crq": Name, "new": Name, "next": Name, "t": int, "h": int,
-        "closed": bool, "val": int | None, "safe": bool, "idx": int, "pass": int,
-    },
-)
-
-
-class Segment(TypedDict):
-    """A segment."""
-
-    head: int
-    tail: int
-    closed: bool
-    next: Name | None
-    cells: list[Cell]
-
-
-class Array(TypedDict):
-    """The array."""
-
-    head: int
-    tail: int
-    cells: list[Slot]  # those that aren't empty
-
-
-class Start(TypedDict):
-    """The world at a start; the segments are lists by their makers."""
-
-    actors: list[Actor]
-    segments: list[list[Segment]]
-    qhead: Name
-    qtail: Name
-    array: Array
-
-
-class Trace(TypedDict):
-    """A trace with a start, as far as it is read here."""
-
-    ring: int
-    start: Start
-
-
-IDLE: Actor = {
-    "pc": "Idle", "op": None, "crq": [0, 0], "new": [0, 0], "next": [0, 0], "t": 0, "h": 0,
-    "closed": False, "val": None, "safe": False, "idx": 0, "pass": 0,
-}
-ENDS: tuple[End, ...] = ("qhead", "qtail")
 FLAW = re.compile(r"lcrqdb: refused 26 Flaw ([0-9])")
-POINTS_FIT = "\n| Control point | An actor's words fit if |"
-
-# A part of a start: its name, and what makes it plain.
-Part = tuple[str, Callable[[Start], None]]
-
-
-def with_words(actor: Actor, words: Mapping[str, object]) -> Actor:
-    """An actor with these words in the place of its own."""
-    return cast(Actor, {**actor, **words})
-
+POINTS_FIT = "| Control point | An actor's words fit if |"
 
 # ---- The conditions of the page ------------------------------------------------------------------
 
@@ -99,8 +33,7 @@ def condition_of(number: int, page: str) -> str:
 def rows_for(point: str, page: str) -> Iterator[str]:
     """What the words of an actor at this control point have to be, as the last table has it."""
     order = ["Idle", *model.control_points(page)]
-    for row in page.partition(POINTS_FIT)[2].partition("\n\n")[0].splitlines()[2:]:
-        names, fits = (cell.strip() for cell in row.strip("|").split("|"))
+    for names, fits in markdown.rows_of(page, POINTS_FIT):
         named = re.findall(r"Idle|[EQAB][0-9]+", names)
         if " to " in names:
             named = order[order.index(named[0]) : order.index(named[-1]) + 1]
@@ -111,62 +44,43 @@ def rows_for(point: str, page: str) -> Iterator[str]:
 # ---- Parts ---------------------------------------------------------------------------------------
 
 
-def make_idle(at: int, start: Start) -> None:
-    """Makes an actor idle."""
-    start["actors"][at] = IDLE.copy()
+class Part(NamedTuple):
+    """A part of a start: its name, the keys that lead to it, and what it is where it is plain."""
+
+    name: str
+    keys: tuple[str | int, ...]
+    plain: object
+
+    def make_plain(self, start: Start) -> None:
+        """Makes it plain."""
+        holder: Any = start
+        for key in self.keys[:-1]:
+            holder = holder[key]
+        holder[self.keys[-1]] = copy.deepcopy(self.plain)
 
 
-def actor_parts(start: Start) -> Iterator[Part]:
-    """The actors, made idle."""
-    for at, _ in enumerate(start["actors"]):
-        yield f"actor {at + 1}", functools.partial(make_idle, at)
-
-
-def segment_names(start: Start) -> Iterator[tuple[str, int, int]]:
-    """The segments."""
-    for maker, made in enumerate(start["segments"]):
-        yield from ((f"segment {maker}.{number}", maker, number) for number in range(len(made)))
-
-
-def make_fresh(maker: int, number: int, start: Start) -> None:
-    """Makes a segment's counters and cells those of a fresh one."""
-    segment = start["segments"][maker][number]
-    segment["head"] = segment["tail"] = 0
-    segment["cells"] = [[True, at, None] for at in range(len(segment["cells"]))]
+def actor_parts(start: Start) -> list[Part]:
+    """The actors, which are idle then."""
+    return [Part(f"actor {number}", ("actors", number - 1), IDLE) for number, _ in enumerate(start["actors"], 1)]
 
 
 def ring_parts(start: Start) -> Iterator[Part]:
-    """The rings of the segments, made fresh."""
-    for name, maker, number in segment_names(start):
-        yield name, functools.partial(make_fresh, maker, number)
+    """The segments, whose counters and cells are those of fresh ones then."""
+    for name, *keys in segment_names(start):
+        made = start["segments"][keys[0]][keys[1]]
+        fresh = {"head": 0, "tail": 0, "cells": [[True, cell, None] for cell, _ in enumerate(made["cells"])]}
+        yield Part(f"segment {name}", ("segments", *keys), made | fresh)
 
 
-def lead_to_root(end: End, start: Start) -> None:
-    """Lets an end of the queue name the root."""
-    start[end] = [0, 0]
+def link_parts(start: Start) -> list[Part]:
+    """The queue's ends and the segments' next, which name the root and none then."""
+    nexts = [Part(f"next of segment {name}", ("segments", *keys, "next"), None) for name, *keys in segment_names(start)]
+    return [*(Part(end, (end,), ROOT) for end in ENDS), *nexts]
 
 
-def make_last(maker: int, number: int, start: Start) -> None:
-    """Lets a segment's next be none."""
-    start["segments"][maker][number]["next"] = None
-
-
-def link_parts(start: Start) -> Iterator[Part]:
-    """The queue's ends and the segments' next, which then name the root and none."""
-    for end in ENDS:
-        yield end, functools.partial(lead_to_root, end)
-    for name, maker, number in segment_names(start):
-        yield f"next of {name}", functools.partial(make_last, maker, number)
-
-
-def clear_array(start: Start) -> None:
-    """Makes the array empty."""
-    start["array"] = {"head": 0, "tail": 0, "cells": []}
-
-
-def array_parts(_: Start) -> Iterator[Part]:
-    """The array."""
-    yield "the array", clear_array
+def array_parts(_: Start) -> list[Part]:
+    """The array, which is empty then."""
+    return [Part("the array", ("array",), EMPTY)]
 
 
 PARTS = {2: link_parts, 3: actor_parts, 4: ring_parts, 5: ring_parts, 6: array_parts, 7: actor_parts, 8: actor_parts}
@@ -193,25 +107,24 @@ class Trials:
 
     def part_with(self, number: int, parts: list[Part]) -> str:
         """The first part that has this flaw while all others are plain, or nothing."""
-        for name, _ in parts:
+        for part in parts:
             start = copy.deepcopy(self.trace["start"])
-            for other, make_plain in parts:
-                if other != name:
-                    make_plain(start)
+            for other in parts:
+                if other != part:
+                    other.make_plain(start)
             if self.flaw_of(start) == number:
-                return name
+                return part.name
         return ""
 
-    def words_with(self, number: int, at: int) -> list[str]:
+    def words_with(self, number: int, index: int) -> list[str]:
         """The words of an actor of which each alone, as an idle actor has it, removes the flaw that the
         actor has while all others are idle."""
+        start = copy.deepcopy(self.trace["start"])
+        given, start["actors"] = start["actors"][index], [IDLE] * len(start["actors"])
         found: list[str] = []
-        for word in (it for it in IDLE if it not in ("pc", "op")):
-            start = copy.deepcopy(self.trace["start"])
-            given = start["actors"][at]
-            start["actors"] = [IDLE.copy() for _ in start["actors"]]
-            start["actors"][at] = with_words(given, {word: IDLE.get(word)})
-            if start["actors"][at] != given and self.flaw_of(start) != number:
+        for word in WORDS:
+            start["actors"][index] = with_words(given, {word: IDLE.get(word)})
+            if start["actors"][index] != given and self.flaw_of(start) != number:
                 found.append(word)
         return found
 
@@ -219,10 +132,10 @@ class Trials:
 def about_actor(trials: Trials, number: int, name: str, page: str) -> str:
     """What is to be said of an actor with a flaw: where it is, what its words have to be, and which of
     them may be to blame."""
-    at = int(name.split(" ")[1]) - 1
-    actor = trials.trace["start"]["actors"][at]
+    index = int(name.split(" ")[1]) - 1
+    actor = trials.trace["start"]["actors"][index]
     fits = [*rows_for(actor["pc"], page)] if number == 8 else [condition_of(number, page)]
-    words = trials.words_with(number, at)
+    words = trials.words_with(number, index)
     blamed = f"; the flaw is gone with the {' or '.join(words)} of an idle actor" if words else ""
     return f"{name} at {actor['pc']}: {'; '.join(fits)}{blamed}"
 

@@ -21,159 +21,15 @@ program (`flaws.py`), with status 1. Only Python's standard library is needed; w
 """
 
 import argparse
-import importlib.util
-import itertools
 import json
 import subprocess
 import sys
-from collections.abc import Callable, Iterable
-from typing import Protocol, TypeVar, cast
 
-from lcrq_tools import options, program
+from lcrq_tools import options, program, schema
 from lcrq_tools.faults import Fault, Parser, say
 from lcrq_tools.program import Broken, Driven
-from lcrq_tools.records import Actor, Cell, Tail, content_of
-from lcrq_tools.start import flaws
-
-START = """{{
-  "version": 2,
-  "ring": {ring},
-  "start": {{
-    "actors": [
-      {actors}
-    ],
-    "segments": [
-      {segments}
-    ],
-    "qhead": {qhead},
-    "qtail": {qtail},
-    "array": {array}
-  }},
-  "events": [],
-  "undone": [],
-  "marks": []
-}}
-"""
-
-T = TypeVar("T")
-
-# ---- What a reply shows, as a trace has it -------------------------------------------------------
-
-
-def or_null(word: str, value_of: Callable[[str], T]) -> T | None:
-    """What a word stands for, where it may be `none`."""
-    return None if word == "none" else value_of(word)
-
-
-def name_of(word: str) -> flaws.Name:
-    """The name of a segment."""
-    return [int(number) for number in word.split(".")]
-
-
-def value_of(word: str) -> int | None:
-    """A value, or that there is none."""
-    return or_null(word, int)
-
-
-def bit_of(word: str) -> bool:
-    """A bit."""
-    return word == "1"
-
-
-WORDS: dict[str, Callable[[str], object]] = {
-    "crq": name_of, "new": name_of, "next": name_of, "t": int, "h": int, "idx": int, "pass": int,
-    "closed": bit_of, "safe": bit_of, "val": value_of,
-}
-
-
-def actor_of(actor: Actor) -> flaws.Actor:
-    """An actor as it is shown."""
-    word, *value = actor.call.split(" ")
-    call = None if word == "none" else [word, *map(int, value)]
-    named = {key: WORDS[key](word) for key, word in actor.words.items()}
-    return cast(flaws.Actor, {"pc": actor.point, "op": call, **named})
-
-
-def cell_of(content: str) -> flaws.Cell:
-    """A cell of a ring."""
-    cell = Cell.read(content)
-    return [cell.is_safe, cell.index, cell.value]
-
-
-def slot_of(at: int, content: str) -> flaws.Slot:
-    """A slot of the array that is not empty."""
-    return [at, "top" if content == "top" else int(content.removeprefix("value "))]
-
-
-# ---- The world, as it is asked for ---------------------------------------------------------------
-
-
-class Replier(Protocol):
-    """What replies to a line, as `Driven` does."""
-
-    def ask(self, line: str) -> tuple[str] | tuple[str, float, float]:
-        """The reply to a line, and maybe what it took."""
-
-
-class Asked:
-    """A world at which a run of the program is."""
-
-    def __init__(self, driven: Replier) -> None:
-        self.driven = driven
-
-    def show(self, place: str) -> str:
-        """What is at a place."""
-        return content_of(self.driven.ask(f"show {place}")[0])
-
-    def all_of(self, line: str, first: int = 0) -> list[str]:
-        """The replies to a line with this number and each one after it, up to one that is
-        refused."""
-        replies = (self.driven.ask(line.format(number))[0] for number in itertools.count(first))
-        taken = itertools.takewhile(lambda reply: not reply.startswith("refused "), replies)
-        return [reply.removeprefix("is ") for reply in taken]
-
-    def segment(self, name: str) -> flaws.Segment:
-        """The segment of this name."""
-        tail = Tail.read(self.show(f"tail {name}"))
-        return {
-            "head": int(self.show(f"head {name}")),
-            "tail": tail.count,
-            "closed": tail.is_closed,
-            "next": or_null(self.show(f"next {name}"), name_of),
-            "cells": [cell_of(content) for content in self.all_of(f"show cell {name} {{}}")],
-        }
-
-    def made_by(self, maker: int) -> list[flaws.Segment]:
-        """The segments that a maker made."""
-        count = len(self.all_of(f"show whole {maker}.{{}}"))
-        return [self.segment(f"{maker}.{number}") for number in range(count)]
-
-    def array(self) -> flaws.Array:
-        """The array."""
-        slots = enumerate(self.all_of("show acell {}"))
-        filled = [slot_of(at, content) for at, content in slots if content != "empty"]
-        return {"head": int(self.show("ahead")), "tail": int(self.show("atail")), "cells": filled}
-
-    def start(self) -> str:
-        """The whole world as the text of a trace that begins there."""
-        actors = [actor_of(Actor.read(reply)) for reply in self.all_of("actor {}", 1)]
-        made = [self.made_by(maker) for maker in range(len(actors) + 1)]
-        others: dict[str, object] = {end: name_of(self.show(end)) for end in flaws.ENDS}
-        others["array"] = self.array()
-        return text_of(len(made[0][0]["cells"]), actors, made, others)
-
-
-def text_of(
-    ring: int, actors: list[flaws.Actor], made: list[list[flaws.Segment]], others: dict[str, object]
-) -> str:
-    """The text of a trace that begins with these parts: an actor and a segment a line."""
-    lists = ["[" + (",\n" + " " * 7).join(map(json.dumps, segments)) + "]" for segments in made]
-    rows: dict[str, Iterable[str]] = {"actors": map(json.dumps, actors), "segments": lists}
-    texts = {key: (",\n" + " " * 6).join(lines) for key, lines in rows.items()}
-    return START.format(ring=ring, **texts, **{key: json.dumps(part) for key, part in others.items()})
-
-
-# ---- Runs ----------------------------------------------------------------------------------------
+from lcrq_tools.start import flaws, starts
+from lcrq_tools.start.starts import Asked, Trace
 
 
 def look_for_refusals(words: list[str], script: bytes, takes_refused: bool) -> None:
@@ -189,22 +45,13 @@ def look_for_refusals(words: list[str], script: bytes, takes_refused: bool) -> N
         say(said)
 
 
-def start_after(words: list[str], script: bytes) -> str:
-    """The world at the end of a script, as the text of a start."""
+def trace_after(words: list[str], script: bytes) -> Trace:
+    """The world at the end of a script, as a start."""
     lines = script.decode("latin-1").split("\n")
     with Driven(words) as driven:
         for line in lines if lines[-1] else lines[:-1]:
             driven.ask(line)
-        return Asked(driven).start()
-
-
-def schema_fault(text: str) -> str:
-    """What the schema of traces refuses in a text; nothing where the library for it is missing."""
-    if not importlib.util.find_spec("jsonschema"):
-        return ""
-    from lcrq_tools import schema
-
-    return schema.fault_of(json.loads(text))
+        return Asked(driven.ask_all).trace()
 
 
 def read_options() -> argparse.Namespace:
@@ -225,7 +72,7 @@ def read_options() -> argparse.Namespace:
 def check(program_path: str, name: str) -> int:
     """Says what is wrong with the start of a trace; returns the exit status."""
     try:
-        trace: flaws.Trace = json.loads(program.bytes_of(name))
+        trace: Trace = json.loads(program.bytes_of(name))
         has_start = isinstance(trace, dict) and "actors" in trace.get("start", {})
     except ValueError:
         has_start = False
@@ -247,13 +94,12 @@ def main() -> int:
     words = [program_path, *options.start_words(given.trace, given.actors, given.ring)]
     try:
         look_for_refusals(words, script, given.refused)
-        start = start_after(words, script)
+        trace = trace_after(words, script)
     except (Broken, OSError, subprocess.TimeoutExpired) as fault:
         raise Fault(f"the script can't be run: {fault}") from fault
-    if wrong := schema_fault(start):
+    text = starts.text_of(trace)
+    if schema.HAS_LIBRARY and (wrong := schema.fault_of(json.loads(text))):
         raise Fault(f"the schema of traces refuses this start: {wrong}")
-    options.write(given.out, start)
-    trace: flaws.Trace = json.loads(start)
-    world = program.world_of(len(trace["start"]["actors"]), trace["ring"])
-    say(f"a start with {world}")
+    options.write(given.out, text)
+    say(f"a start with {program.world_of(len(trace['start']['actors']), trace['ring'])}")
     return 0

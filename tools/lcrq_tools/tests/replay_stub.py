@@ -1,15 +1,17 @@
 """What tests of the tools for ports put in the place of a run of the program: it makes the steps of a list."""
 
-import json
+import copy
 from collections.abc import Mapping, Sequence
 from pathlib import Path
 
-from lcrq_tools import machine, model, records
+from lcrq_tools import model, records
 from lcrq_tools.port import port_log
 from lcrq_tools.port.port_compare import Comparison
 from lcrq_tools.port.port_log import Record
 from lcrq_tools.port.port_replay import Replay
 from lcrq_tools.records import Actor, Step
+from lcrq_tools.start import starts
+from lcrq_tools.start.starts import Trace
 
 Made = tuple[str, str, Actor]  # the line that makes a step, what it did as text, and its actor after it
 
@@ -43,11 +45,11 @@ LOG = [
     "6 1 - index root 0; -; 1 0",
     "7 1 E8 won; enqueued",
 ]
-# A start of two actors over rings of 2, as JSON.
-START = {
-    "version": 2, "ring": 2, "events": [], "undone": [], "marks": [],
+# A start of two actors over rings of 2.
+START: Trace = {
+    "ring": 2,
     "start": {
-        "actors": [machine.actor(), machine.actor()], "segments": [[machine.segment(2, 0)], [], []],
+        "actors": [starts.IDLE, starts.IDLE], "segments": [[starts.segment(2, 0)], [], []],
         "qhead": [0, 0], "qtail": [0, 0], "array": {"head": 0, "tail": 0, "cells": []},
     },
 }
@@ -62,11 +64,10 @@ class Told(Replay):
         self.listed, self.shown, self.forks = [*steps], shown, forks
         self.made = 0  # how many of them are live
         self.asked: list[str] = []
-        self.opened: list[str] = []  # starts, over which it went on
+        self.opened: list[Trace] = []  # starts, over which it went on
         self.program, self.folder, self.driven = "lcrqdb", Path("/nowhere"), None
         self.options = ["run", "-", "--actors", "2", "--ring", "2"]
         self.steps: list[tuple[str, Step]] = []
-        self.lines: list[str] = []
         self.before, self.first, self.ring, self.states = 0, 0, 2, [IDLE, IDLE]
 
     def ask(self, lines: list[str]) -> list[str]:
@@ -116,14 +117,14 @@ class Told(Replay):
             return "refused 2 NotIdle"
         return "refused 4 NeedsChoice" if wanted.startswith("starve ") else "refused 3 Idle"
 
-    def start(self) -> str:
+    def start(self) -> Trace:
         """The world as a start, which is always the same here."""
-        return json.dumps(START)
+        return copy.deepcopy(START)
 
-    def open_start(self, start: str) -> None:
+    def open_start(self, start: Trace) -> None:
         """Goes on over a start."""
         self.opened.append(start)
-        self.before, self.lines = len(self.steps), []
+        self.before = len(self.steps)
         self.listed, self.made = self.listed[self.made:], 0
 
 

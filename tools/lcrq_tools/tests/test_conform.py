@@ -20,7 +20,7 @@ HALVES = ("1 1 enq 7", "2 1 enqueued")
 def whole(*texts: str) -> Comparison:
     """A comparison of these records that has come to their end."""
     made = compared(*texts)
-    made.at = len(made.records)
+    made.next = len(made.records)
     return made
 
 
@@ -111,7 +111,7 @@ class Differences(unittest.TestCase):
         assert found
         differences, stopped = conform.go_on(comparison, found, Progress(1))
         self.assertEqual([it[2] for it in differences], ["the actor is in no call"])
-        self.assertEqual((stopped, comparison.at), ("", 3))
+        self.assertEqual((stopped, comparison.next), ("", 3))
 
     def test_they_are_grouped_by_kind_and_label(self) -> None:
         rows = [("answer at E4", f"step {at}: a", "b") for at in range(1, 13)]

@@ -9,10 +9,11 @@ from pathlib import Path
 from typing import Any
 from unittest import mock
 
-from lcrq_tools import machine, model, program
+from lcrq_tools import model, program
 from lcrq_tools.program import Ended
-from lcrq_tools.start import flaws
-from lcrq_tools.start.flaws import Trace, Trials
+from lcrq_tools.start import flaws, starts
+from lcrq_tools.start.flaws import Trials
+from lcrq_tools.start.starts import Trace
 
 PAGE = model.PAGE.read_text(encoding="utf-8")
 FAR = 2**62 + 1
@@ -22,7 +23,7 @@ Change = Callable[[Any], object]  # of a start, as JSON has it
 
 def trace() -> Trace:
     """A start of three actors, the second of which dequeues on the first segment of maker 2."""
-    made: Trace = json.loads(machine.dequeuers(2, (2,), 2))
+    made: Trace = json.loads(starts.dequeuers(2, (2,), 2))
     made["start"]["actors"].insert(0, made["start"]["actors"].pop())
     return made
 
@@ -41,7 +42,7 @@ def flaw_of(start: Any) -> int:
         5: any((cell[1] or 0) > FAR + 1 for it in rings for cell in it["cells"]),
         6: max(start["array"]["head"], start["array"]["tail"]) > 64,
         7: any(max(it["t"], it["h"]) >= FAR for it in actors),
-        8: any(it["pc"] == "Idle" and it != flaws.IDLE or it["pc"] == "Q2" and not it["pass"] for it in actors),
+        8: any(it["pc"] == "Idle" and it != starts.IDLE or it["pc"] == "Q2" and not it["pass"] for it in actors),
     }
     return next((number for number, is_found in found.items() if is_found), 0)
 
@@ -93,22 +94,22 @@ class Parts(unittest.TestCase):
         start = trace()["start"]
         start["segments"][0][0]["next"] = start["qtail"] = [2, 0]
         start["array"] = {"head": 1, "tail": 2, "cells": [[1, 7]]}
-        lists = {number: [name for name, _ in parts(start)] for number, parts in flaws.PARTS.items()}
+        lists = {number: [part.name for part in parts(start)] for number, parts in flaws.PARTS.items()}
         self.assertEqual(lists[2], ["qhead", "qtail", "next of segment 0.0", "next of segment 2.0"])
         self.assertEqual(lists[3], ["actor 1", "actor 2", "actor 3"])
         self.assertEqual((lists[4], lists[5], lists[6]), (["segment 0.0", "segment 2.0"],) * 2 + (["the array"],))
         self.assertEqual((lists[7], lists[8]), (lists[3], lists[3]))
         plain = copy.deepcopy(start)
         for parts in (flaws.link_parts, flaws.ring_parts, flaws.array_parts):
-            for _, make_plain in parts(start):
-                make_plain(plain)
+            for part in parts(plain):
+                part.make_plain(plain)
         self.assertEqual((plain["qtail"], plain["array"]), ([0, 0], {"head": 0, "tail": 0, "cells": []}))
         rings = [it for made in plain["segments"] for it in made]
         fresh = {"head": 0, "tail": 0, "closed": False, "next": None, "cells": [[True, 0, None], [True, 1, None]]}
         self.assertEqual(rings, [fresh, fresh])
         self.assertEqual(plain["actors"], start["actors"])
-        flaws.make_idle(1, plain)
-        self.assertEqual(plain["actors"], [flaws.IDLE] * 3)
+        flaws.actor_parts(plain)[1].make_plain(plain)
+        self.assertEqual(plain["actors"], [starts.IDLE] * 3)
 
 
 class Blame(unittest.TestCase):

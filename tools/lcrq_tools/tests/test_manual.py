@@ -31,16 +31,16 @@ class Manual(unittest.TestCase):
     """The tables of docs/MANUAL.md."""
 
     def test_a_table_has_what_is_quoted_in_its_column(self) -> None:
-        with mock.patch.object(manual, "PAGE", TABLE):
-            self.assertEqual(manual.quoted_in("| Line | Meaning |", 1), ["enq A X", "go A", "starve A yes"])
+        self.assertEqual(manual.quoted_in(TABLE, "| Line | Meaning |", 0), ["enq A X", "go A", "starve A yes"])
 
     def test_a_table_that_is_not_there_is_a_fault(self) -> None:
-        with mock.patch.object(manual, "PAGE", TABLE), self.assertRaisesRegex(Fault, "no table whose head begins"):
-            manual.quoted_in("| PLACE | Is |", 1)
+        with self.assertRaisesRegex(Fault, "no table whose head begins"):
+            manual.quoted_in(TABLE, "| PLACE | Is |", 0)
 
-    def test_a_table_behind_a_text_is_found_there(self) -> None:
-        with mock.patch.object(manual, "PAGE", TABLE + "### More\n\n| Line | Meaning |\n|---|---|\n| `len` | counts |\n"):
-            self.assertEqual(manual.quoted_in("| Line | Meaning |", 1, "### More\n"), ["len"])
+    def test_all_tables_of_one_head_are_read(self) -> None:
+        page = TABLE + "### More\n\n| Line | Meaning |\n|---|---|\n| `len` | counts |\n"
+        self.assertEqual(manual.quoted_in(page, "| Line | Meaning |", 0)[-2:], ["starve A yes", "len"])
+        self.assertEqual(manual.quoted_in(page.partition("### More\n")[2], "| Line |", 0), ["len"])
 
     def test_a_form_without_a_line_gets_one(self) -> None:
         lines = manual.lines_beside(["undo K", "same NAME NAME", "show PLACE", "len"], ["undo", "len"])
@@ -133,8 +133,16 @@ class Model(unittest.TestCase):
             model.read(renamed)
 
     def test_an_outcome_follows_only_the_other_one(self) -> None:
-        with self.assertRaisesRegex(model.Unreadable, "can't follow"):
-            model.body_of(["won: return enqueued; go to E1"])
+        for line in ("won: return enqueued; go to E1", "if closed: go to E1; go to E2"):
+            with self.assertRaisesRegex(model.Unreadable, "can't follow"):
+                model.body_of([line])
+
+    def test_an_if_has_one_else_and_an_outcome_none(self) -> None:
+        self.assertEqual(len(model.body_of(["won: go to E1; lost: go to E2", "if safe: go to E1; else go to E2"])), 3)
+        branch = "if safe: go to E1; else go to E2"
+        for line in ("won: go to E1; else go to E2", f"{branch}; else go to E3", "else go to E1"):
+            with self.assertRaisesRegex(model.Unreadable, "no form of a line has"):
+                model.body_of([line])
 
     def test_a_step_without_access_is_refused(self) -> None:
         step = model.Step("E1", model.body_of(["go to E2"]), "E2")

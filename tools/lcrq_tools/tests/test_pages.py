@@ -4,6 +4,7 @@ import tempfile
 import unittest
 from pathlib import Path
 
+from lcrq_tools import markdown
 from lcrq_tools.checks import pages
 from lcrq_tools.program import CRATES
 
@@ -15,7 +16,7 @@ class Blocks(unittest.TestCase):
 
     def test_a_block_of_a_list_is_read_without_its_indent(self) -> None:
         page = "1. A step:\n   ```text\n   go 1    ok 3\n   ```\n"
-        self.assertEqual([*pages.blocks_of(page)], [("text", ["go 1    ok 3"])])
+        self.assertEqual([*markdown.blocks_of(page)], [("text", ["go 1    ok 3"])])
 
     def test_what_is_after_a_reply_is_left_out(self) -> None:
         self.assertEqual(pages.rows_of(["go 1    ok 3     reads the tail"]), [["go 1", "ok 3"]])

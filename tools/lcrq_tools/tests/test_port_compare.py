@@ -43,10 +43,10 @@ class Agreement(unittest.TestCase):
         self.assertIsNone(comparison.difference())
         wanted = {"labels": 5, "places": 4, "answers": 6, "replies": 1, "words": 2}
         self.assertEqual((comparison.compared, comparison.accesses), (wanted, 6))
-        self.assertEqual(comparison.replay.lines, [line for line, _, _ in ENQUEUE])
+        self.assertEqual(comparison.replay.lines(), [line for line, _, _ in ENQUEUE])
         self.assertEqual([point for point, _ in comparison.replay.steps], "Idle E1 E2 E4 E5 E6 E8".split(" "))
         self.assertEqual((comparison.ends, comparison.names.segments), ({0: "enqueued"}, {"root": "0.0"}))
-        self.assertEqual((comparison.steps_of, comparison.at), ({1: 7}, len(LOG)))
+        self.assertEqual((comparison.steps_of, comparison.next), ({1: 7}, len(LOG)))
 
     def test_a_reply_may_have_a_record_of_its_own(self) -> None:
         comparison = compared(*LOG[:6], "7 1 E8 won", "8 1 enqueued")
@@ -87,7 +87,7 @@ class Differences(unittest.TestCase):
         for at, text, wanted in rows:
             with self.subTest(text):
                 found = difference(*with_record(at, text))
-                self.assertEqual((found.kind, found.port, found.model, found.at), (*wanted, at))
+                self.assertEqual((found.kind, found.port, found.model, found.index), (*wanted, at))
 
     def test_a_step_of_an_idle_actor_is_of_another_line(self) -> None:
         found = difference("1 1 E1 qtail")
@@ -106,7 +106,7 @@ class Differences(unittest.TestCase):
     def test_the_model_is_then_as_before_the_record(self) -> None:
         told = Told()
         found = difference(*LOG[:3], "4 1 E4 open 1", *LOG[4:], replay=told)
-        self.assertEqual((told.made, told.asked[-1], len(told.lines)), (3, "back 4", 3))
+        self.assertEqual((told.made, told.asked[-1], len(told.lines())), (3, "back 4", 3))
         made = "step 4; go 1; tail 0.0; wrote; open 0; -"
         self.assertEqual((found.step, found.point, str(found.made)), (4, "E4", made))
         self.assertEqual((found.label(), found.state), ("E4", actor("E4")))
@@ -125,11 +125,11 @@ class Choices(unittest.TestCase):
                 told = Told([*TO_E10, *CHOSEN["starve 1 yes"]], forks=CHOSEN)
                 comparison = compared("1 1 enq 7", "2 1 E9 0", f"3 1 {label} open 0", replay=told)
                 self.assertIsNone(comparison.difference())
-                self.assertEqual((comparison.chosen, comparison.at, told.lines[2:]), (1, 3, [line, "go 1"]))
+                self.assertEqual((comparison.chosen, comparison.next, told.lines()[2:]), (1, 3, [line, "go 1"]))
                 self.assertEqual((told.made, told.states[0]), (4, told.listed[3][2]))
 
     def test_no_choice_agrees_with_any_other_record(self) -> None:
         told = Told([*TO_E10, *CHOSEN["starve 1 yes"]], forks=CHOSEN)
         found = difference("1 1 enq 7", "2 1 E9 0", "3 1 E5 none", replay=told)
         self.assertEqual((found.kind, found.port, found.model), ("line", "E5", "refused 4 NeedsChoice"))
-        self.assertEqual((told.made, told.lines, told.states[0]), (2, ["enq 1 7", "go 1"], actor("E10")))
+        self.assertEqual((told.made, told.lines(), told.states[0]), (2, ["enq 1 7", "go 1"], actor("E10")))

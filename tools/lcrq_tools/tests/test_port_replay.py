@@ -8,12 +8,11 @@ from collections.abc import Iterator
 from pathlib import Path
 from unittest import mock
 
-from lcrq_tools.port import port_replay
-from lcrq_tools.port.port_replay import Known, Replay
+from lcrq_tools import program
+from lcrq_tools.port.port_replay import Replay
 from lcrq_tools.program import Broken
 from lcrq_tools.records import Step
-from lcrq_tools.start import freeze
-from lcrq_tools.tests.replay_stub import IDLE, START, Told, actor
+from lcrq_tools.tests.replay_stub import IDLE, START, actor
 
 # It replies to what a run asks first, as two actors over rings of 4, and to other lines with themselves.
 FAKE = rf"""#!/bin/sh
@@ -47,7 +46,7 @@ class Runs(unittest.TestCase):
             self.assertEqual((made.before, made.count(), made.live()), (0, 0, 2))
 
     def test_the_replies_to_many_lines_come_in_their_order(self) -> None:
-        lines = [f"show cell 0.0 {at}" for at in range(2 * port_replay.LINES + 1)]
+        lines = [f"show cell 0.0 {at}" for at in range(2 * program.LINES + 1)]
         with replay() as made:
             self.assertEqual((made.ask(lines), made.ask([]), made.ask(["a"])), (lines, [], ["a"]))
 
@@ -65,60 +64,18 @@ class Runs(unittest.TestCase):
 
     def test_steps_are_kept_and_taken_back(self) -> None:
         with replay() as made:
-            made.keep("deq 2", "Idle", CALLED, actor("Q1", "deq"))
-            made.keep("go 2", "Q1", WENT, actor("Q2", "deq"))
+            made.keep(CALLED, actor("Q1", "deq"))
+            made.keep(WENT, actor("Q2", "deq"))
             self.assertEqual((made.count(), made.live(), made.states), (2, 4, [IDLE, actor("Q2", "deq")]))
             made.drop(actor("Q1", "deq"))
-            self.assertEqual((made.lines, made.steps), (["deq 2"], [("Idle", CALLED)]))
+            self.assertEqual((made.lines(), made.steps), (["deq 2"], [("Idle", CALLED)]))
             self.assertEqual(made.states[1], actor("Q1", "deq"))
 
     def test_over_a_start_the_steps_before_it_stay_counted(self) -> None:
         with replay() as made:
-            made.keep("deq 2", "Idle", CALLED, actor("Q1", "deq"))
-            made.open_start("a start")
+            made.keep(CALLED, actor("Q1", "deq"))
+            made.open_start(START)
             file = made.folder / "1.trace"
-            self.assertEqual((file.read_text(encoding="ascii"), made.options), ("a start", ["load", "--", str(file)]))
-            self.assertEqual((made.before, made.lines, made.count(), made.live()), (1, [], 1, 2))
-
-
-class World(Told):
-    """A run that has so many segments of each maker, over rings of 2."""
-
-    def __init__(self, counts: list[int]) -> None:
-        super().__init__()
-        self.counts = counts
-
-    def reply(self, line: str) -> str:
-        """The reply to a line."""
-        word, *rest = line.split(" ")
-        if word == "actor":
-            return str(IDLE) if int(rest[0]) < len(self.counts) else "refused 1 NoActor"
-        if rest[0] in ("whole", "tail", "head", "next", "cell"):
-            maker, number = map(int, rest[1].split("."))
-            is_there = number < self.counts[maker] and int(rest[2] if rest[2:] else 0) < 2
-            told = {"whole": "exists", "tail": "open 0", "head": "0", "next": "none", "cell": f"1 {rest[-1]} none"}
-            return f"is {told[rest[0]]}" if is_there else "refused 19 NoSuchPlace"
-        told = {"qhead": "0.0", "qtail": "0.0", "ahead": "0", "atail": "0", "acell": "empty"}
-        return f"is {told[rest[0]]}" if int(rest[1] if rest[1:] else 0) < 64 else "refused 19 NoSuchPlace"
-
-
-class Knowledge(unittest.TestCase):
-    """What is asked for in one go."""
-
-    def test_a_start_is_made_of_replies_that_are_known(self) -> None:
-        told = World([1, 0, 0])
-        known = Known(told)
-        known.fetch_world(2, 2)
-        asked = len(told.asked)
-        self.assertEqual(json.loads(freeze.Asked(known).start()), START)
-        self.assertEqual(len(told.asked), asked)
-        self.assertEqual((known.ask("show ahead"), len(told.asked)), (("is 0",), asked))
-        self.assertEqual(json.loads(Replay.start(told)), START)
-        self.assertEqual((known.ask("actor 9"), told.asked[-1]), (("refused 1 NoActor",), "actor 9"))
-
-    def test_segments_are_asked_for_until_one_is_missing(self) -> None:
-        for count, asked in ((0, 64), (63, 64), (64, 128), (65, 128)):
-            told = World([1, count])
-            Known(told).fetch_world(1, 2)
-            names = [line for line in told.asked if line.startswith("show whole 1.")]
-            self.assertEqual((len(names), sum(line.startswith("show tail 1.") for line in told.asked)), (asked, count))
+            self.assertEqual(made.options, ["load", "--", str(file)])
+            self.assertEqual(json.loads(file.read_text(encoding="ascii"))["start"], START["start"])
+            self.assertEqual((made.before, made.lines(), made.count(), made.live()), (1, [], 1, 2))

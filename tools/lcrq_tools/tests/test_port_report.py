@@ -10,7 +10,7 @@ from lcrq_tools.draw import picture
 from lcrq_tools.faults import Fault
 from lcrq_tools.page import page
 from lcrq_tools.port import port_report
-from lcrq_tools.port.port_compare import Comparison, Difference
+from lcrq_tools.port.port_compare import Difference
 from lcrq_tools.port.port_report import About, phrase_of, said_of
 from lcrq_tools.records import Actor, Place, Step
 from lcrq_tools.tests.replay_stub import ENQUEUE, IDLE, LOG, Told, actor, compared, records_of, with_record
@@ -91,7 +91,7 @@ class Texts(unittest.TestCase):
     """What is said of one difference."""
 
     def test_it_names_both_sides_and_the_steps_before(self) -> None:
-        code = about(*DREW).lines
+        code = about(*DREW).code_lines
         text = [*about(*DREW).text()]
         self.assertEqual(text[:3], [
             "step 4: at E4 the port found open 5, the model open 0: Tail of 0.0 is open 0, position 0",

@@ -1,20 +1,17 @@
 """Taking a port's side: what is changed in a start, which changes are tried, and what goes on."""
 
 import copy
-import json
 import tempfile
 import unittest
-from collections.abc import Callable
 from pathlib import Path
-from typing import cast
 from unittest import mock
 
 from lcrq_tools import program
 from lcrq_tools.port import port_side
-from lcrq_tools.port.port_side import Change, Side, put
+from lcrq_tools.port.port_side import Change, Side
 from lcrq_tools.program import Ended
 from lcrq_tools.records import Place
-from lcrq_tools.start.flaws import IDLE as IDLE_ACTOR, Segment, Start, with_words
+from lcrq_tools.start.starts import IDLE as IDLE_ACTOR, Start, set_content, with_words
 from lcrq_tools.tests.replay_stub import ENQUEUE, IDLE, LOG, START, Told, actor, compared, with_record
 
 SHOWN = {"show tail 0.0": "is open 0"}
@@ -23,7 +20,7 @@ CALLED = with_words(IDLE_ACTOR, {"pc": "E4", "op": ["enq", 7]})  # actor 1 where
 
 def start() -> Start:
     """The start."""
-    return cast(Start, copy.deepcopy(START["start"]))
+    return copy.deepcopy(START["start"])
 
 
 def side(*texts: str, told: Told | None = None) -> Side:
@@ -34,44 +31,6 @@ def side(*texts: str, told: Told | None = None) -> Side:
     made = Side(comparison, found)
     made.world["start"]["actors"][0] = CALLED
     return made
-
-
-class Puts(unittest.TestCase):
-    """What is at a place of a start."""
-
-    def test_a_place_has_its_new_content_and_no_other(self) -> None:
-        def ring(it: Start) -> Segment:
-            return it["segments"][0][0]
-
-        rows: list[tuple[str, str, str, Callable[[Start], object], object]] = [
-            ("qhead", "0.0", "2.1", lambda it: it["qhead"], [2, 1]),
-            ("qtail", "0.0", "1.0", lambda it: it["qtail"], [1, 0]),
-            ("ahead", "0", "3", lambda it: it["array"]["head"], 3),
-            ("atail", "0", "4", lambda it: it["array"]["tail"], 4),
-            ("head 0.0", "0", "5", lambda it: ring(it)["head"], 5),
-            ("tail 0.0", "open 0", "closed 6", lambda it: (ring(it)["closed"], ring(it)["tail"]), (True, 6)),
-            ("next 0.0", "none", "1.0", lambda it: ring(it)["next"], [1, 0]),
-            ("value 0.0 1", "none", "9", lambda it: ring(it)["cells"][1], [True, 1, 9]),
-            ("index 0.0 1", "1 1", "0 3", lambda it: ring(it)["cells"][1], [False, 3, None]),
-            ("cell 0.0 1", "1 1 none", "0 3 9", lambda it: ring(it)["cells"][1], [False, 3, 9]),
-            ("acell 3", "empty", "value 9", lambda it: it["array"]["cells"], [[3, 9]]),
-        ]
-        for place, old, new, found, wanted in rows:
-            with self.subTest(place):
-                made = start()
-                put(made, Place.read(place), new)
-                self.assertEqual(found(made), wanted)
-                put(made, Place.read(place), old)
-                self.assertEqual(made, start())
-
-    def test_slots_of_the_array_stay_in_their_order(self) -> None:
-        made = start()
-        rows = [("acell 4", "value 9"), ("acell 1", "top"), ("acell 4", "value 8"), ("acell 2", "empty")]
-        for place, content in rows:
-            put(made, Place.read(place), content)
-        self.assertEqual(made["array"]["cells"], [[1, "top"], [4, 8]])
-        put(made, Place.read("acell 1"), "empty")
-        self.assertEqual(made["array"]["cells"], [[4, 8]])
 
 
 class Changes(unittest.TestCase):
@@ -132,7 +91,7 @@ class Trials(unittest.TestCase):
         right = f"{actor('E4')}\nok 1\nstep 1; go 1; tail 0.0; wrote; open 5; -\n{state}\n"
         self.assertEqual(self.take(made, right), "tail 0.0 is open 5")
         self.assertEqual(self.scripts, ["actor 1\ngo 1\nstep 1\nactor 1\n"])
-        self.assertEqual(json.loads(told.opened[0])["start"]["segments"][0][0]["tail"], 5)
+        self.assertEqual(told.opened[0]["start"]["segments"][0][0]["tail"], 5)
 
     def test_a_change_that_the_program_refuses_is_not_taken(self) -> None:
         text = with_record(3, "4 1 E4 tail root; wrote; open 5")
@@ -143,7 +102,7 @@ class Trials(unittest.TestCase):
 
     def test_a_call_is_over_where_the_port_says_so(self) -> None:
         made = side(*with_record(2, "3 1 enqueued"))
-        self.assertEqual((made.take(), made.comparison.at), ("the actor is in no call", 3))
+        self.assertEqual((made.take(), made.comparison.next), ("the actor is in no call", 3))
         over = side(*LOG, "8 1 empty")
         self.assertEqual((over.take(), over.found.state), ("nothing: both calls are over", IDLE))
 
@@ -151,15 +110,15 @@ class Trials(unittest.TestCase):
         made = side(*with_record(3, "4 1 E4 tail root; wrote; open 0; t 9"))
         told = made.replay
         assert isinstance(told, Told)
-        self.assertEqual((made.take(), made.comparison.at, told.count()), ("t 9", 4, 4))
-        self.assertEqual([it["t"] for it in json.loads(told.opened[0])["start"]["actors"]], [9, 0])
+        self.assertEqual((made.take(), made.comparison.next, told.count()), ("t 9", 4, 4))
+        self.assertEqual([it["t"] for it in told.opened[0]["start"]["actors"]], [9, 0])
         self.assertEqual(side(*with_record(3, "4 1 E4 tail root; wrote; open 0; t many")).take(), "")
 
     def test_what_the_step_only_had_to_find_is_put_back(self) -> None:
         told = Told([*ENQUEUE[:6], ("go 1", "cell 0.0 0; read; lost; -", actor("E9"))])
         made = side(*with_record(6, "7 1 E8 won; enqueued"), told=told)
         changed, cell = copy.deepcopy(made.world), Place.read("cell 0.0 0")
-        put(changed["start"], cell, "1 1 none")
+        set_content(changed["start"], cell, "1 1 none")
         made.go_on(Change("cell 0.0 0 is 1 1 none", changed, (cell, "0 4 none")))
-        cells = [json.loads(it)["start"]["segments"][0][0]["cells"][0] for it in told.opened]
-        self.assertEqual((cells, made.comparison.at), ([[True, 1, None], [False, 4, None]], 7))
+        cells = [it["start"]["segments"][0][0]["cells"][0] for it in told.opened]
+        self.assertEqual((cells, made.comparison.next), ([[True, 1, None], [False, 4, None]], 7))

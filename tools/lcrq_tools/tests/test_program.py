@@ -59,6 +59,15 @@ class Texts(unittest.TestCase):
         for text, lines in rows.items():
             self.assertEqual(program.lines_of(text), lines)
 
+    def test_lines_are_a_script(self) -> None:
+        self.assertEqual((program.script_of(["a", "b"]), program.script_of([])), (b"a\nb\n", b""))
+        self.assertEqual(program.replies_to(["cat"], b"len\nlen\n"), ["len", "len"])
+
+    def test_a_script_that_is_not_taken_is_a_fault(self) -> None:
+        for command, said in (("echo no >&2; exit 1", "no"), ("exit 3", "the program ended with status 3")):
+            with self.assertRaisesRegex(Fault, f"^{said}$"):
+                program.replies_to(["sh", "-c", command], b"")
+
     def test_a_world_in_words(self) -> None:
         self.assertEqual(program.world_of(1, 2), "1 actor, rings of 2 cells (R = 2)")
         self.assertEqual(program.world_of(4, 8), "4 actors, rings of 8 cells (R = 8)")
@@ -131,6 +140,11 @@ class Asked(unittest.TestCase):
             self.assertEqual([it.ask(line)[0] for line in ("len", "\xe4")], ["<len>", "<\ufffd>"])
             self.assertTrue(all(time >= 0 for time in it.ask("a")[1:]))
             self.assertEqual(it.end(), 3)
+
+    def test_many_lines_have_their_replies_in_order(self) -> None:
+        lines = [str(number) for number in range(2 * program.LINES + 1)]
+        with Driven(["sed", "-u", "s/^/</"]) as it:
+            self.assertEqual((it.ask_all(lines), it.ask_all([])), ([f"<{line}" for line in lines], []))
 
     def test_one_that_ends_or_says_nothing_is_a_fault(self) -> None:
         with Driven(["sh", "-c", "read -r line"]) as it, self.assertRaisesRegex(Broken, "^the program ended at `len`"):

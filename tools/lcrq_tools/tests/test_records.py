@@ -93,7 +93,7 @@ class Tables(unittest.TestCase):
     """The tables of the manual."""
 
     def test_each_reply_is_read_and_spelled(self) -> None:
-        forms = [form for form in manual.quoted_in("| After | Reply |", 2) if form != "-"]
+        forms = [form for form in manual.quoted_in(manual.PAGE, "| After | Reply |", 1) if form != "-"]
         self.assertEqual(set(forms), set(REPLIES))
         for form, (text, reply) in REPLIES.items():
             with self.subTest(form):
