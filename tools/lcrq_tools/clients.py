@@ -1,11 +1,11 @@
-"""Clients of the viewers of `lcrqdb view --live`: each writes the lines of its viewer into a pipe, and
-reads the replies from another one.
+"""Plays the clients of `lcrqdb view --live` for checks and measurements: each writes the lines of its viewer into a
+pipe, and reads the replies from another one.
 
-A viewer opens FILE for reading, then FILE.replies for appending. If both are named pipes, it waits
-each time for the client's end. So the client opens its end of the replies first, which waits for
-nothing, and then its end of FILE, once the viewer reads it. Reads and writes of a client don't wait
-either: one thread serves all clients, and waits only until one of them can go on. What doesn't come
-in a minute is a fault. Linux and Python's standard library are all that is needed.
+A viewer opens FILE for reading, then FILE.replies for appending. If both are named pipes, it waits each time for the
+client's end. So the client opens its end of the replies first, which waits for nothing, and then its end of FILE, once
+the viewer reads it. Reads and writes of a client don't wait either: one thread serves all clients, and waits only until
+one of them can go on. What doesn't come in a minute is a fault. Linux and Python's standard library are all that is
+needed.
 """
 
 import contextlib
@@ -47,8 +47,8 @@ class Dialogue:
 
 
 class Client:
-    """Asks lines over the ends of two pipes, which it closes. It awaits the reply to each line before
-    it asks the next one, unless it is in a hurry."""
+    """Asks lines over the ends of two pipes, which it closes. It awaits the reply to each line before it asks the next
+    one, unless it is in a hurry."""
 
     def __init__(self, name: str, lines: Sequence[str], writing: int, reading: int) -> None:
         self.name, self.lines = name, [*lines]
@@ -91,8 +91,8 @@ class Client:
         self.asked = max(self.asked, end)
 
     def pull(self) -> None:
-        """Reads what is there, and asks on. The viewer must reply once to each line, and must not end
-        before the client has all replies and hangs up."""
+        """Reads what is there, and asks on. The viewer must reply once to each line, and must not end before the client
+        has all replies and hangs up."""
         piece = os.read(self.reading, PIPE_BYTES)
         *whole, self.unread = (self.unread + piece).split(b"\n")
         self.replies += [reply.decode("latin-1") for reply in whole]
@@ -145,37 +145,37 @@ def closed(end: int) -> int:
 
 def serve(clients: Sequence[Client], is_over: Callable[[Client], bool]) -> None:
     """Lets clients read and write at the same time, each until this holds of it."""
-    while left := [it for it in clients if not is_over(it)]:
+    while left := [client for client in clients if not is_over(client)]:
         serve_once(left)
 
 
 def serve_once(clients: Sequence[Client]) -> None:
     """Lets each of the clients read and write that can; waits for the first one."""
-    wanted = [it.writing for it in clients if it.unsent]
-    readable, writable, _ = select.select([it.reading for it in clients], wanted, [], SECONDS)
+    wanted = [client.writing for client in clients if client.unsent]
+    readable, writable, _ = select.select([client.reading for client in clients], wanted, [], SECONDS)
     if not readable and not writable:
-        counts = (f"{it.name} has {len(it.replies)} of {it.goal} replies" for it in clients)
+        counts = (f"{client.name} has {len(client.replies)} of {client.goal} replies" for client in clients)
         raise Broken(f"nothing came in {SECONDS:.0f} s: {', '.join(counts)}")
-    for it in clients:
-        if it.writing in writable:
-            it.push()
-        if it.reading in readable:
-            it.pull()
+    for client in clients:
+        if client.writing in writable:
+            client.push()
+        if client.reading in readable:
+            client.pull()
 
 
 def talk(clients: Sequence[Client], goal: int | None = None) -> None:
     """Lets clients ask at the same time, each as far as this number of lines, or all its lines."""
-    for it in clients:
-        it.aim(goal)
+    for client in clients:
+        client.aim(goal)
     serve(clients, Client.is_answered)
 
 
 def finish(clients: Sequence[Client]) -> None:
     """Lets clients ask all their lines at the same time and hang up, until their viewers have ended."""
     talk(clients)
-    for it in clients:
-        it.hang_up()
-    serve(clients, lambda it: it.has_ended)
+    for client in clients:
+        client.hang_up()
+    serve(clients, lambda client: client.has_ended)
 
 
 def awaited(what: str, look: Callable[[], Found | None]) -> Found:
@@ -194,8 +194,8 @@ def bytes_in(reading: int) -> int:
 
 
 def ask_until_full(client: Client) -> None:
-    """Lets a client, which has asked nothing, ask in a hurry and read nothing, until the pipe of its
-    replies is all but full. So its viewer stops, if more lines are there."""
+    """Lets a client, which has asked nothing, ask in a hurry and read nothing, until the pipe of its replies is all but
+    full. So its viewer stops, if more lines are there."""
     size = fcntl.fcntl(client.reading, fcntl.F_SETPIPE_SZ, SMALLEST)
     client.is_in_a_hurry = True
     client.aim()
@@ -228,8 +228,8 @@ class Live:
         return self
 
     def __exit__(self, *_: object) -> None:
-        for it in self.clients:
-            it.leave()
+        for client in self.clients:
+            client.leave()
         self.child.kill()  # nothing, if it has ended
         self.child.communicate()
 

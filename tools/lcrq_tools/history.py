@@ -1,9 +1,9 @@
-"""A history of viewers: their calls in order, as `lcrqdb view FILE.. --history` writes them.
+"""Reads a history of viewers for tools and checks: their calls in order, as `lcrqdb view FILE.. --history` writes them.
 
-Its text has a part for each viewer, then a line `history H`, and then the H calls, each a line
-`V LINE`: the number of the viewer and the line that it asked. The session's trace may follow. The
-lines `V LINE` by themselves are a history too. Without their viewers the lines are a script, which
-`lcrqdb run` answers as the viewers were answered. Only Python's standard library is used.
+Its text has a part for each viewer, then a line `history H`, and then the H calls, each a line `V LINE`: the number of
+the viewer and the line that it asked. The session's trace may follow. The lines `V LINE` by themselves are a history
+too. Without their viewers the lines are a script, which `lcrqdb run` answers as the viewers were answered. Only
+Python's standard library is used.
 """
 
 import re
@@ -50,14 +50,17 @@ def history_of(where: str, text: str) -> History:
         lines.pop()
     head = head_of(where, lines)
     most = sum(1 for line in lines[:head] if PART.fullmatch(line)) or MOST_VIEWERS
-    calls = [call_of(f"{where}: line {at}", line, most) for at, line in enumerate(lines[head:], head + 1)]
-    check_count(f"{where}: line {head}", lines[:head], len(calls))
+    calls = [call_of(f"{where}: line {number}", line, most) for number, line in enumerate(lines[head:], head + 1)]
+    if head and lines[head - 1] != f"history {len(calls)}":
+        hint = "" if calls else ": `lcrqdb view FILE.. --history` writes them"
+        what = f"`{shown(lines[head - 1])}`, and the number of calls behind it is {len(calls)}"
+        raise Fault(f"{where}: line {head}: {what}{hint}")
     return History(tuple(viewer for viewer, _ in calls), tuple(line for _, line in calls))
 
 
 def head_of(where: str, lines: list[str]) -> int:
     """How many lines stand before the first call: none, or all as far as the line `history H`."""
-    head = next((at for at, line in enumerate(lines, 1) if COUNT.fullmatch(line)), 0)
+    head = next((number for number, line in enumerate(lines, 1) if COUNT.fullmatch(line)), 0)
     if not head and lines and PART.fullmatch(lines[0]):
         raise Fault(f"{where}: no line `history H` leads to the calls")
     return head
@@ -72,13 +75,6 @@ def call_of(where: str, line: str, most: int) -> tuple[int, str]:
     if number.startswith("0") or len(number) > len(str(most)) or int(number) > most:
         raise Fault(f"{where}: `{shown(line)}` is of no viewer: they are numbered from 1 to {most}")
     return int(number), asked
-
-
-def check_count(where: str, head: list[str], count: int) -> None:
-    """Compares the line `history H`, if there is one, with the number of calls behind it."""
-    if head and head[-1] != f"history {count}":
-        hint = "" if count else ": `lcrqdb view FILE.. --history` writes them"
-        raise Fault(f"{where}: `{shown(head[-1])}`, and the number of calls behind it is {count}{hint}")
 
 
 def shown(text: str) -> str:

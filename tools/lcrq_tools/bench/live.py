@@ -1,16 +1,14 @@
-"""Live viewers: how long their calls take beside those of `view`, and a reply over pipes beside one of
-`run`.
+"""Live viewers: how long their calls take beside those of `view`, and a reply over pipes beside one of `run`.
 
     python3 tools/bench.py live [--program P] [--runs N] [--lines N] [--asked N]
 
-Timed are `view --live` and `view` of four plain files with N lines each, in turn; then, in turn too,
-lines of a live viewer at two named pipes and of `run -` at two pipes, each line written when the
-reply to the one before is there. Standard output gets one Markdown table, and how many times as long
-the live viewers take, best run beside best run. Every other line is a step, the others are `len`. The
-replies are counted. Only Python's standard library is used.
+Timed are `view --live` and `view` of four plain files with N lines each, in turn; then, in turn too, lines of a live
+viewer at two named pipes and of `run -` at two pipes, each line written when the reply to the one before is there.
+Standard output gets one Markdown table, and how many times as long the live viewers take, best run beside best run.
+Every other line is a step, the others are `len`. The replies are counted. Only Python's standard library is used.
 
-A history has 100,000 calls at most, so four files can have 25,000 lines each. A round trip begins
-when the client writes the line; what the client takes itself is in both times.
+A history has 100,000 calls at most, so four files can have 25,000 lines each. A round trip begins when the client
+writes the line; what the client takes itself is in both times.
 """
 
 import os
@@ -20,6 +18,7 @@ from collections.abc import Callable, Sequence
 from pathlib import Path
 
 from lcrq_tools import program
+from lcrq_tools.bench.measures import SPREAD, in_turn, print_times, script_in, watched
 from lcrq_tools.bench.views import VIEWERS, script_of
 from lcrq_tools.clients import Client, Live, finish, piped, replies_of, talk
 from lcrq_tools.faults import Fault, Parser
@@ -28,73 +27,60 @@ from lcrq_tools.options import add_program
 FIRST = 100  # lines that are asked before the clock starts
 MOST_VIEW, MOST_TRIP = 1.5, 2.0  # times as long as the other way: no more is wanted
 
-Way = tuple[str, Callable[[], float]]  # a name, and a run that gives its seconds
+Ways = dict[str, Callable[[], float]]  # by name what runs a way and returns its seconds: live viewers, then the other
 
 
 # ---- Files ---------------------------------------------------------------------------------------
 
 
-def seconds_of(words: Sequence[str], count: int) -> tuple[float, bytes]:
-    """The seconds of a run, and its output, which has so many lines."""
-    ended = program.watch(words)
-    if ended.status or ended.output.count(b"\n") != count:
-        raise Fault(f"{words[1]}: status {ended.status}, or not {count} lines; {ended.errors}")
-    return ended.seconds, ended.output
-
-
-def view_seconds(built: str, files: Sequence[Path], lines: int) -> float:
-    """The seconds of a view of files with so many lines each."""
-    return seconds_of([built, "view", *map(str, files)], len(files) * (lines + 1) + 1)[0]
-
-
 def live_seconds(built: str, files: Sequence[Path], lines: int) -> float:
     """The seconds of live viewers of files with so many lines each."""
-    seconds, _ = seconds_of([built, "view", "--live", *map(str, files)], 1)
-    for it in map(replies_of, files):
-        replies = it.read_bytes().count(b"\n")
-        it.unlink()
+    ended = watched("view", [built, "view", "--live", *map(str, files)], 1)
+    for file in map(replies_of, files):
+        replies = file.read_bytes().count(b"\n")
+        file.unlink()
         if replies != lines:
-            raise Fault(f"{it.name} has {replies} replies to {lines} lines")
-    return seconds
+            raise Fault(f"{file.name} has {replies} replies to {lines} lines")
+    return ended.seconds
 
 
-def ways_of_files(built: str, folder: Path, lines: int) -> list[Way]:
+def ways_of_files(built: str, folder: Path, lines: int) -> Ways:
     """Both ways to read files, which are written into a folder."""
-    files = [folder / f"viewer-{number}" for number in range(1, VIEWERS + 1)]
-    for number, it in enumerate(files, 1):
-        it.write_text("".join(f"{line}\n" for line in script_of(number, lines)), encoding="ascii")
+    numbers = range(1, VIEWERS + 1)
+    files = [script_in(folder / f"viewer-{number}", script_of(number, lines)) for number in numbers]
+    view, written = [built, "view", *map(str, files)], VIEWERS * (lines + 1) + 1
     name = f"{VIEWERS} files of {lines:,} lines"
-    return [
-        (f"`view --live`, {name}", lambda: live_seconds(built, files, lines)),
-        (f"`view`, {name}", lambda: view_seconds(built, files, lines)),
-    ]
+    return {
+        f"`view --live`, {name}": lambda: live_seconds(built, files, lines),
+        f"`view`, {name}": lambda: watched("view", view, written).seconds,
+    }
 
 
 # ---- Round trips ---------------------------------------------------------------------------------
 
 
 def round_trip(client: Client) -> float:
-    """The seconds between a line and its reply, of all lines of a client but the first ones."""
+    """The milliseconds between a line and its reply, of all lines of a client but the first ones."""
     talk([client], FIRST)
     begin = time.perf_counter()
     talk([client])
     seconds = time.perf_counter() - begin
     finish([client])
-    return seconds / (len(client.lines) - FIRST)
+    return 1000 * seconds / (len(client.lines) - FIRST)
 
 
 def live_trip(built: str, folder: Path, script: Sequence[str]) -> float:
     """The round trip of a live viewer at named pipes, which are made in a folder."""
-    file = folder / "asked"
-    for it in (file, replies_of(file)):
-        it.unlink(missing_ok=True)
-        os.mkfifo(it)
-    with Live([built, "view", "--live", str(file)]) as live:
-        seconds = round_trip(live.client("the viewer", file, script))
+    asked = folder / "asked"
+    for pipe in (asked, replies_of(asked)):
+        pipe.unlink(missing_ok=True)
+        os.mkfifo(pipe)
+    with Live([built, "view", "--live", str(asked)]) as live:
+        took = round_trip(live.client("the viewer", asked, script))
         ended = live.end()
     if ended.status:
         raise Fault(ended.errors.strip())
-    return seconds
+    return took
 
 
 def run_trip(built: str, script: Sequence[str]) -> float:
@@ -103,28 +89,13 @@ def run_trip(built: str, script: Sequence[str]) -> float:
         return round_trip(client)
 
 
-def ways_of_pipes(built: str, folder: Path, asked: int) -> list[Way]:
+def ways_of_pipes(built: str, folder: Path, asked: int) -> Ways:
     """Both ways to ask so many lines over pipes."""
     script = script_of(1, asked + FIRST)
-    return [
-        (f"a reply of `view --live`, {asked:,} lines", lambda: live_trip(built, folder, script)),
-        (f"a reply of `run -`, {asked:,} lines", lambda: run_trip(built, script)),
-    ]
-
-
-# ---- The table -----------------------------------------------------------------------------------
-
-
-def timed(ways: Sequence[Way], runs: int) -> list[list[float]]:
-    """The seconds of so many runs of each way, which take turns."""
-    taken = [[seconds() for _, seconds in ways] for _ in range(runs)]
-    return [list(it) for it in zip(*taken)]
-
-
-def print_rows(ways: Sequence[Way], taken: Sequence[Sequence[float]], unit: str, often: float) -> None:
-    """Prints a row for each way, in a unit that is so often in a second."""
-    for (name, _), seconds in zip(ways, taken):
-        program.print_row(name, *(f"{often * it:.3f} {unit}" for it in program.spread_of(seconds)))
+    return {
+        f"a reply of `view --live`, {asked:,} lines": lambda: live_trip(built, folder, script),
+        f"a reply of `run -`, {asked:,} lines": lambda: run_trip(built, script),
+    }
 
 
 def main() -> int:
@@ -135,13 +106,13 @@ def main() -> int:
     parser.add_argument("--asked", type=int, default=5_000, help="lines over pipes (5000)")
     given = parser.parse_args()
     with tempfile.TemporaryDirectory() as name:
-        folder = Path(name)
-        of_files = ways_of_files(given.program, folder, given.lines)
-        of_pipes = ways_of_pipes(given.program, folder, given.asked)
-        files, trips = timed(of_files, given.runs), timed(of_pipes, given.runs)
-    program.print_head("What", "Median", "Least", "Greatest")
-    print_rows(of_files, files, "s", 1.0)
-    print_rows(of_pipes, trips, "ms", 1000.0)
-    for (live, other), most in ((files, MOST_VIEW), (trips, MOST_TRIP)):
-        print(f"{min(live) / min(other):.2f} times as long, at most {most} is wanted")
+        files = in_turn(ways_of_files(given.program, Path(name), given.lines), given.runs)
+        trips = in_turn(ways_of_pipes(given.program, Path(name), given.asked), given.runs)
+    program.print_head("What", *SPREAD)
+    for taken, unit in ((files, "s"), (trips, "ms")):
+        for way, times in taken.items():
+            print_times(way, times, f"{{:.3f}} {unit}")
+    for taken, most in ((files, MOST_VIEW), (trips, MOST_TRIP)):
+        live, other = (min(times) for times in taken.values())
+        print(f"{live / other:.2f} times as long, at most {most} is wanted")
     return 0

@@ -1,21 +1,22 @@
-"""How long a short hold of the ticket lock takes: four threads with 20,000 holds each, beside one
-thread with 80,000.
+"""How long a short hold of the ticket lock takes: four threads with 20,000 holds each, beside one thread with 80,000.
 
     python3 tools/bench.py lock [--runs N] [--holds N]
 
-A program is written into a temporary folder beside a copy of `crates/rd_lock`, and `rt try` builds
-and runs it there, several times over. It is not proved: it is only timed, and each run checks that
-no hold was lost. Standard output gets one Markdown table with the median, the least and the
-greatest of the runs. `rt` has to be on the PATH. Only Python's standard library is used.
+A program is written into a temporary folder beside a copy of `crates/rd_lock`, and `rt try` builds and runs it there,
+several times over. It is not proved: it is only timed, and each run checks that no hold was lost. Standard output gets
+one Markdown table with the median, the least and the greatest of the runs. `rt` has to be on the PATH. Only Python's
+standard library is used.
 
-A hold takes the value, adds 1 to a number in it, and puts it back. The program reads the clock
-before the first thread starts and after the last has ended.
+A hold takes the value, adds 1 to a number in it, and puts it back. The program reads the clock before the first thread
+starts and after the last has ended.
 """
 
 import re
+import statistics
 import sys
 
 from lcrq_tools import program
+from lcrq_tools.bench.measures import SPREAD, print_times
 from lcrq_tools.faults import Parser
 
 PROGRAM = """//! Times short holds of the ticket lock.
@@ -106,14 +107,13 @@ def main() -> int:
     source = PROGRAM.replace("RUNS", str(given.runs)).replace("HOLDS", str(given.holds))
     ran = program.try_program(source, ["rd_lock"], ["rd_lock"])
     found = re.findall(r"four (\d+) one (\d+) holds (\d+)", ran.stdout)
-    rows = [tuple(map(int, row)) for row in found]
-    if len(rows) != given.runs or any(row[2] != 8 * given.holds for row in rows):
+    rows = [(int(four), int(alone)) for four, alone, holds in found if int(holds) == 8 * given.holds]
+    if len(rows) != given.runs or len(found) != given.runs:
         print(ran.stdout, ran.stderr, sep="\n", file=sys.stderr)
         return 1
-    program.print_head("What", "Median", "Least", "Greatest", "A hold")
+    program.print_head("What", *SPREAD, "A hold")
     names = [f"4 threads, {given.holds:,} holds each", f"1 thread, {4 * given.holds:,} holds"]
     for name, micros in zip(names, zip(*rows)):
-        spread = program.spread_of(micros)
-        times = [f"{one / 1000:.1f} ms" for one in spread]
-        program.print_row(name, *times, f"{1_000 * spread[0] / (4 * given.holds):,.0f} ns")
+        a_hold = 1000 * statistics.median(micros) / (4 * given.holds)
+        print_times(name, [time / 1000 for time in micros], "{:.1f} ms", f"{a_hold:,.0f} ns")
     return 0

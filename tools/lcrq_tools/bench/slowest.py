@@ -1,12 +1,11 @@
-"""The slowest line of each command at several lengths of runs, over runs that are hard in different
-ways.
+"""The slowest line of each command at several lengths of runs, over runs that are hard in different ways.
 
     python3 tools/bench.py slowest [--program P] [--runs N] [--lengths N,N,..] [--limit MS] [--processor]
         [--only LETTERS] [--seconds N]
 
-P is the built program. It is driven line by line: a line is written, its one reply is waited for,
-and what that takes is the line's time, not a share of the time of a whole run. The rule is that no
-line takes more than 50 ms at 65,535 steps, whatever the run. The runs have letters:
+P is the built program. It is driven line by line: a line is written, its one reply is waited for, and what that takes
+is the line's time, not a share of the time of a whole run. The rule is that no line takes more than 50 ms at 65,535
+steps, whatever the run. The runs have letters:
 
     a   four actors by chance, with calls of both kinds
     b   eight actors that dequeue, each on its own segment, in turn: no step depends on another
@@ -17,43 +16,40 @@ line takes more than 50 ms at 65,535 steps, whatever the run. The runs have lett
         segments are made all the time
     f   sixteen actors, twelve of which dequeue by chance on two segments of two cells
 
-After each run the session asks, undoes and redoes each step, undoes steps alone, rolls back a step
-of each actor, goes back and forth, sets bookmarks, goes from one to another, compares them and
-drops them; and it makes the run anew in another order of independent steps, the latest first. A
-session is driven several times, and the time of each of its lines is the median. All replies are
-checked, those of `show`, `actor`, `step` and `origin` by how they begin; and for that it is worked
-out anew which steps depend on which (dependence.py).
+After each run the session asks, undoes and redoes each step, undoes steps alone, rolls back a step of each actor, goes
+back and forth, sets bookmarks, goes from one to another, compares them and drops them; and it makes the run anew in
+another order of independent steps, the latest first. A session is driven several times, and the time of each of its
+lines is the median. All replies are checked, those of `show`, `actor`, `step` and `origin` by how they begin; and for
+that it is worked out anew which steps depend on which (dependence.py).
 
-Standard output gets three Markdown tables, in milliseconds. The first one has for each command its
-slowest line at each length with the letter of the run on which it was, and how many times as long
-that is as at the next smaller length. The second one has the same for `same` and `roll` on run b
-alone: in bold is what takes over a millisecond, and more than 2.3 times as long for twice the
-steps. The third one has each line that took longer than the limit at the greatest length. Times are
-from end to end, with the processor's time of the same line beside them; with --processor the other
-way round. Last comes the share of the time with work that the machine's host gave to others.
-Standard error gets what is being measured.
+Standard output gets three Markdown tables, in milliseconds. The first one has for each command its slowest line at each
+length with the letter of the run on which it was, and how many times as long that is as at the next smaller length. The
+second one has the same for `same` and `roll` on run b alone: in bold is what takes over a millisecond, and more than
+2.3 times as long for twice the steps. The third one has each line that took longer than the limit at the greatest
+length. Times are from end to end, with the processor's time of the same line beside them; with --processor the other
+way round. Last comes the share of the time with work that the machine's host gave to others. Standard error gets what
+is being measured.
 
-The status is 1 if a line at the greatest length took longer than the limit, or if a reply is wrong.
-Only Python's standard library is used.
+The status is 1 if a line at the greatest length took longer than the limit, or if a reply is wrong. Only Python's
+standard library is used.
 """
 
 import argparse
 import gc
 import itertools
 import math
-import os
 import random
 import statistics
 import sys
 import tempfile
 from array import array
-from collections.abc import Callable, Iterable
-from dataclasses import dataclass, field
+from collections.abc import Callable, Iterable, Sequence
+from dataclasses import dataclass
 from pathlib import Path
 from typing import TypeVar
 
 from lcrq_tools import dependence, program
-from lcrq_tools.bench.commands import MOST_STEPS
+from lcrq_tools.bench.measures import MOST_STEPS, lengths
 from lcrq_tools.bench.random_runs import SEED, random_run
 from lcrq_tools.faults import Parser
 from lcrq_tools.options import add_program
@@ -65,7 +61,7 @@ STRETCHES = 64
 SPARES = 4  # actors after the runners of each run, which make nine of its steps
 SPARE_STEPS = 9
 MOST_GROWTH = 2.3  # times as long for twice the steps
-APART = "b"
+APART, COMPARED = "b", ("`same", "`roll")  # the run of the second table, and how its rows begin
 
 STEP = "a step"
 DISCARDS = "a step that discards what was undone"
@@ -79,41 +75,32 @@ Key = TypeVar("Key")
 # ---- Runs ----------------------------------------------------------------------------------------
 
 
-def in_turn(runners: int, steps: int) -> list[str]:
-    """Steps of the runners in turn."""
-    return [f"go {at % runners + 1}" for at in range(steps)]
+def in_turn(runners: int, steps: int, length: int = 1) -> list[int]:
+    """Turns of the runners, each of so many steps."""
+    return [number // length % runners + 1 for number in range(steps)]
 
 
-def in_stretches(runners: int, steps: int) -> list[str]:
-    """Steps of the runners in turn, a sixty-fourth of all at a time."""
-    return [f"go {at // (steps // STRETCHES) % runners + 1}" for at in range(steps)]
+def in_stretches(runners: int, steps: int) -> list[int]:
+    """Turns of the runners, each of a sixty-fourth of all steps."""
+    return in_turn(runners, steps, steps // STRETCHES)
 
 
-def by_chance(runners: int, steps: int) -> list[str]:
-    """Steps of the runners by chance."""
+def by_chance(runners: int, steps: int) -> list[int]:
+    """Turns of the runners by chance."""
     source = random.Random(SEED)
-    return [f"go {source.randint(1, runners)}" for _ in range(steps)]
-
-
-def enqueues(runners: int, steps: int) -> list[str]:
-    """Enqueues of the runners by chance over rings of two cells."""
-    return random_run(steps, 1.0, runners, 2)
-
-
-def calls(runners: int, steps: int) -> list[str]:
-    """Calls of the runners by chance over rings of four cells."""
-    return random_run(steps, 0.5, runners, 4)
+    return [source.randint(1, runners) for _ in range(steps)]
 
 
 @dataclass
 class Run:
-    """A run over the fresh world; or, with makers, over a start by hand in which the runners
-    dequeue on these makers' segments."""
+    """A run over the fresh world, whose runners call by chance, this share of the calls enqueues; or, with makers, over
+    a start by hand in which the runners dequeue on these makers' segments by turns."""
 
     runners: int
     ring: int
-    lines: Callable[[int, int], list[str]]
-    makers: list[int] = field(default_factory=list)
+    enqueues: float = 0.0
+    turns: Callable[[int, int], list[int]] = by_chance
+    makers: Sequence[int] = ()
 
     def words(self, folder: Path) -> list[str]:
         """The words after the program's name, for lines on standard input."""
@@ -124,22 +111,26 @@ class Run:
         return ["load", str(trace)]
 
     def whole(self, steps: int) -> list[str]:
-        """The lines of this many steps: the runners', a step on which nothing depends as number 2
-        and another in the middle, and a call as number 3 that goes on only at the end, where it
-        takes a value if there is one. The last step can be exchanged for another."""
+        """The lines of this many steps: the runners', a step on which nothing depends as number 2 and another in the
+        middle, and a call as number 3 that goes on only at the end, where it takes a value if there is one. The last
+        step can be exchanged for another."""
         free, middle, late, last = range(self.runners + 1, self.runners + SPARES + 1)
-        lines, half = self.lines(self.runners, steps - SPARE_STEPS), steps // 2
+        count, half = steps - SPARE_STEPS, steps // 2
+        if self.makers:
+            lines = [f"go {runner}" for runner in self.turns(self.runners, count)]
+        else:
+            lines = random_run(count, self.enqueues, self.runners, self.ring)
         front = [lines[0], f"deq {free}", f"deq {late}"]
         return front + lines[1:half] + [f"deq {middle}"] + lines[half:] + [f"go {late}"] * 5 + [f"enq {last} 1"]
 
 
 RUNS = {
-    "a": Run(4, 4, calls),
-    "b": Run(8, 4, in_turn, list(range(1, 9))),
-    "c": Run(8, 4, in_stretches, list(range(1, 9))),
-    "d": Run(8, 4, by_chance, [1] * 8),
-    "e": Run(8, 2, enqueues),
-    "f": Run(12, 2, by_chance, [1, 2] * 6),
+    "a": Run(4, 4, enqueues=0.5),
+    "b": Run(8, 4, turns=in_turn, makers=range(1, 9)),
+    "c": Run(8, 4, turns=in_stretches, makers=range(1, 9)),
+    "d": Run(8, 4, makers=[1] * 8),
+    "e": Run(8, 2, enqueues=1.0),
+    "f": Run(12, 2, makers=[1, 2] * 6),
 }
 
 
@@ -160,8 +151,8 @@ def steps_of(words: list[str], run: Run, count: int) -> list[dependence.Step]:
 
 @dataclass
 class Line:
-    """A line of a session: its row in the table, its text and its reply, or, where that ends with a
-    space, how its reply begins."""
+    """A line of a session: its row in the table, its text and its reply, or, where that ends with a space, how its
+    reply begins."""
 
     row: str
     text: str
@@ -173,8 +164,8 @@ class Line:
 
 
 class Session:
-    """The lines of a session over a run. Each method adds some; between them the run is live as it
-    was made, with none undone."""
+    """The lines of a session over a run. Each method adds some; between them the run is live as it was made, with none
+    undone."""
 
     def __init__(self, run: Run, steps: list[dependence.Step]) -> None:
         self.run, self.steps, self.count = run, steps, len(steps)
@@ -182,7 +173,6 @@ class Session:
         self.make(steps)
         self.ask()
         self.walk()
-        self.say(MARK, "mark run", f"marked {self.count}")
         self.compare_equal()
         self.undo_alone()
         self.roll_back()
@@ -195,8 +185,7 @@ class Session:
         self.lines.append(Line(row, text, wanted))
 
     def move(self, row: str, text: str, undone: int = 0, live: int | None = None) -> None:
-        """Adds a line that moves steps, and leaves this many undone; and live, if these are not all
-        others."""
+        """Adds a line that moves steps, and leaves this many undone; and live, if these are not all others."""
         self.say(row, text, f"at {self.count - undone if live is None else live} {undone}")
 
     def drop(self, *names: str) -> None:
@@ -240,23 +229,24 @@ class Session:
         self.move(FORWARD, f"forward {self.count}")
 
     def compare_equal(self) -> None:
-        """Compares a run with itself."""
-        self.say(MARK, "mark equal", f"marked {self.count}")
+        """Sets a bookmark at the run, and compares it with itself."""
+        for name in ("run", "equal"):
+            self.say(MARK, f"mark {name}", f"marked {self.count}")
         self.say("`same` of equal lists", "same run equal", "same yes")
         self.drop("equal")
 
-    def compare(self, row: str) -> None:
-        """Compares the live steps, which are the run in another order, with it, and goes to and fro
-        between the two."""
+    def compare(self, row: str, drops: bool = True) -> None:
+        """Compares the live steps, which are the run in another order, with it, and goes to and fro between the two."""
         self.say(MARK, "mark other", f"marked {self.count}")
         self.say(row, "same run other", "same yes")
         self.say(row, "same other run", "same yes")
         for name in ("run", "other", "run"):
             self.move(ACROSS, f"goto {name}")
+        if drops:
+            self.drop("other")
 
     def undo_alone(self) -> None:
-        """Undoes steps alone and redoes them: at the front, in the middle and at the end; and is
-        refused."""
+        """Undoes steps alone and redoes them: at the front, in the middle and at the end; and is refused."""
         for number in (1, 3):
             refused = f"refused 13 Depended {dependence.first_dependant(self.steps, number)}"
             self.say("`undo K`, refused", f"undo {number}", refused)
@@ -266,16 +256,16 @@ class Session:
             self.move(REDO, "redo")
             if number != self.count:
                 self.compare("`same`, a step undone alone and redone")
-                self.drop("other")
 
     def rolled(self) -> dict[int, str]:
-        """The numbers of the steps that are rolled back, each with its row: the first one, one in
-        the middle, and one of each actor, which is the later the greater the actor's number is."""
+        """The numbers of the steps that are rolled back, each with its row: the first one, one in the middle, and one
+        of each actor, which is the later the greater the actor's number is."""
         runners, found = self.run.runners, {1: "`roll 1`", self.count // 2: "`roll` of a step in the middle"}
         for actor in range(1, runners + 1):
             begin = self.count * (actor - 1) // runners
-            own = (at for at, step in enumerate(self.steps[begin:], begin + 1) if f"actor {actor}" in step.wrote)
-            found.setdefault(next(own, 1), "`roll` of a step of each actor")
+            own = (f"actor {actor}" in step.wrote for step in self.steps[begin:])
+            number = next((number for number, is_own in enumerate(own, begin + 1) if is_own), 1)
+            found.setdefault(number, "`roll` of a step of each actor")
         return found
 
     def roll(self, row: str, number: int) -> int:
@@ -290,38 +280,37 @@ class Session:
             undone = self.roll(row, number)
             self.move(FORWARD, f"forward {undone}")
             self.compare("`same`, steps rolled back and redone")
-            self.drop("other")
         undone = self.roll("`roll 1`", 1)
         self.say(DISCARDS, f"go {self.run.runners + SPARES}", f"ok {self.count - undone + 1}")
         self.move(ACROSS, "goto run")
 
     def make_another_order(self) -> None:
-        """Makes the run anew in another order, compares and goes to and fro; then another last
-        step, which makes it another run."""
+        """Makes the run anew in another order, compares and goes to and fro; then another last step, which makes it
+        another run."""
         order = dependence.latest_first(self.steps[:-1]) + self.steps[-1:]
         self.move(BACK, f"back {self.count}", self.count)
         self.make(order, DISCARDS)
-        self.compare("`same` of two orders")
+        self.compare("`same` of two orders", drops=False)
         self.move(ACROSS, "goto other")
         self.move(UNDO, "undo", 1)
         self.say(DISCARDS, f"enq {self.run.runners + SPARES} 2", f"ok {self.count}")
         self.say(MARK, "mark last", f"marked {self.count}")
-        for one, two in (("run", "last"), ("last", "run"), ("other", "last")):
-            self.say(UNEQUAL, f"same {one} {two}", "same no")
+        for names in ("run last", "last run", "other last"):
+            self.say(UNEQUAL, f"same {names}", "same no")
         self.move(ACROSS, "goto run")
         self.drop("last", "other")
 
     def go_along(self) -> None:
         """Sets bookmarks along the run, and goes from each to each."""
-        lengths = {"start": 0, "middle": self.count // 2, "near": self.count - 1}
-        for name, length in lengths.items():
+        live = {"start": 0, "middle": self.count // 2, "near": self.count - 1}
+        for name, length in live.items():
             self.move(BACK, f"back {self.count - length}", self.count - length)
             self.say(MARK, f"mark {name}", f"marked {length}")
             self.move(FORWARD, f"forward {self.count - length}")
         self.say(UNEQUAL, "same run near", "same no")
-        lengths["run"] = self.count
+        live["run"] = self.count
         for name in "start run middle run near run near middle start middle near start run".split():
-            self.move(ALONG, f"goto {name}", live=lengths[name])
+            self.move(ALONG, f"goto {name}", live=live[name])
         self.drop("start", "middle", "near")
 
 
@@ -330,8 +319,7 @@ class Session:
 
 @dataclass
 class Timed:
-    """A line of a session over a run, and its milliseconds by the clock that counts and by the
-    other one."""
+    """A line of a session over a run, and its milliseconds by the clock that counts and by the other one."""
 
     letter: str
     line: Line
@@ -373,9 +361,8 @@ def timed(options: argparse.Namespace, letter: str, count: int, folder: Path) ->
 def slowest(lines: Iterable[Timed], key: Callable[[Timed], Key]) -> dict[Key, Timed]:
     """Of the lines of each key the slowest."""
     found: dict[Key, Timed] = {}
-    for one in lines:
-        if key(one) not in found or one.ms > found[key(one)].ms:
-            found[key(one)] = one
+    for line in lines:
+        found[key(line)] = max(found.get(key(line), line), line, key=lambda timed: timed.ms)
     return found
 
 
@@ -387,11 +374,6 @@ def shown(ms: float) -> str:
     return f"{ms:,.0f}" if ms >= 100 else f"{ms:.1f}" if ms >= 10 else f"{ms:.2f}"
 
 
-def other_clock(options: argparse.Namespace) -> str:
-    """What the clock shows by which the table does not go."""
-    return "From end to end" if options.processor else "Of the processor"
-
-
 def is_too_much(few: int, many: int, old: Timed, new: Timed) -> bool:
     """Whether lines take too many times as long at a length as at a smaller one."""
     return new.ms > 1 and new.ms / old.ms > MOST_GROWTH ** math.log2(many / few)
@@ -401,16 +383,16 @@ def print_table(options: argparse.Namespace, columns: list[dict[str, Timed]], te
     """Prints a table of the slowest lines of each row, with a column for each length."""
     pairs = list(itertools.pairwise(options.lengths))
     heads = [f"{count:,} steps, ms" for count in options.lengths] + [f"{many:,} / {few:,}" for few, many in pairs]
-    heads += [f"{other_clock(options)}, ms", "Line"]
+    heads += [f"{options.other_clock}, ms", "Line"]
     program.print_head("Command", *heads)
     for name in columns[0]:
         row = [column[name] for column in columns if name in column]
         if len(row) < len(columns):
             continue  # a short run may have no such line
-        cells = [f"{shown(one.ms)} {one.letter}" for one in row]
-        for lengths, times in zip(pairs, itertools.pairwise(row)):
-            bold = "**" if tells_growth and is_too_much(*lengths, *times) else ""
-            cells.append(f"{bold}{times[1].ms / times[0].ms:.1f}{bold}")
+        cells = [f"{shown(line.ms)} {line.letter}" for line in row]
+        for counts, (old, new) in zip(pairs, itertools.pairwise(row)):
+            bold = "**" if tells_growth and is_too_much(*counts, old, new) else ""
+            cells.append(f"{bold}{new.ms / old.ms:.1f}{bold}")
         program.print_row(name, *cells, shown(row[-1].other), f"`{row[-1].line.text}`")
     print(flush=True)
 
@@ -418,47 +400,37 @@ def print_table(options: argparse.Namespace, columns: list[dict[str, Timed]], te
 def print_long(options: argparse.Namespace, lines: list[Timed]) -> None:
     """Prints the lines that took longer than the limit."""
     print(f"Lines of more than {options.limit:g} ms at {options.lengths[-1]:,} steps: {len(lines) or 'none'}\n")
-    if lines:
-        program.print_head("Run", "Line", "Command", "ms", f"{other_clock(options)}, ms")
-    for one in sorted(lines, key=lambda one: -one.ms):
-        times = shown(one.ms), shown(one.other)
-        program.print_row(one.letter, f"`{one.line.text}`", one.line.row, *times)
-    if lines:
-        print()
+    if not lines:
+        return
+    program.print_head("Run", "Line", "Command", "ms", f"{options.other_clock}, ms")
+    for line in sorted(lines, key=lambda line: -line.ms):
+        program.print_row(line.letter, f"`{line.line.text}`", line.line.row, shown(line.ms), shown(line.other))
+    print()
 
 
 def measured(options: argparse.Namespace, folder: Path) -> tuple[list[Column], list[Timed]]:
-    """For each length the slowest lines of each row of each run, and the lines at the greatest
-    length that took longer than the limit."""
+    """For each length the slowest lines of each row of each run, and the lines at the greatest length that took longer
+    than the limit."""
     columns: list[Column] = []
     long: list[Timed] = []
     for count in options.lengths:
         found: Column = {}
+        long = []
         for letter in options.only:
             try:
                 lines = timed(options, letter, count, folder)
             except Broken as fault:
                 raise Broken(f"run {letter}, {count} steps: {fault}") from fault
-            found |= slowest(lines, lambda one: (one.letter, one.line.row))
-            if count == options.lengths[-1]:
-                over = [one for one in lines if one.ms > options.limit]
-                long += slowest(over, lambda one: (one.line.row, one.line.text)).values()
+            found |= slowest(lines, lambda timed: (timed.letter, timed.line.row))
+            over = (line for line in lines if line.ms > options.limit)
+            long += slowest(over, lambda timed: (timed.line.row, timed.line.text)).values()
         columns.append(found)
     return columns, long
 
 
-def compared(found: Column) -> dict[str, Timed]:
+def compared(column: Column) -> dict[str, Timed]:
     """Of the slowest lines at a length those of the second table."""
-    rows = ((row, one) for (letter, row), one in found.items() if letter == APART)
-    return {row: one for row, one in rows if row.startswith(("`same", "`roll"))}
-
-
-def print_all(options: argparse.Namespace, columns: list[Column], long: list[Timed]) -> None:
-    """Prints the tables."""
-    print_table(options, [slowest(column.values(), lambda one: one.line.row) for column in columns])
-    if APART in options.only:
-        print_table(options, [compared(column) for column in columns], tells_growth=True)
-    print_long(options, long)
+    return {row: line for (letter, row), line in column.items() if letter == APART and row.startswith(COMPARED)}
 
 
 def read_options() -> argparse.Namespace:
@@ -466,15 +438,15 @@ def read_options() -> argparse.Namespace:
     parser = Parser(__doc__, "--lengths 1000,2000 --runs 1")
     add_program(parser)
     parser.add_argument("--runs", type=int, default=5, help="how often each session is driven (5)")
-    parser.add_argument("--lengths", default="16000,32000,65535", help="steps of the runs, rising (16000,32000,65535)")
+    usual = "16000,32000,65535"
+    parser.add_argument("--lengths", type=lengths, default=usual, help=f"steps of the runs, rising ({usual})")
     about = "the most milliseconds of a line at the greatest length (50)"
     parser.add_argument("--limit", type=float, default=50.0, help=about)
     parser.add_argument("--processor", action="store_true", help="go by the time of the processor")
     parser.add_argument("--only", default="".join(RUNS), help=f"the letters of the runs ({''.join(RUNS)})")
     parser.add_argument("--seconds", type=float, default=120.0, help="the longest time of one line (120)")
     options = parser.parse_args()
-    options.program = os.path.abspath(options.program)
-    options.lengths = [int(count) for count in options.lengths.split(",")]
+    options.other_clock = "From end to end" if options.processor else "Of the processor"
     is_rising = options.lengths == sorted(set(options.lengths))
     if not is_rising or not all(FEWEST_STEPS <= count <= MOST_STEPS for count in options.lengths):
         parser.error(f"--lengths: {FEWEST_STEPS} to {MOST_STEPS} steps each, rising")
@@ -493,7 +465,10 @@ def main() -> int:
         except Broken as fault:
             print(f"WRONG: {fault}")
             return 1
-    print_all(options, columns, long)
+    print_table(options, [slowest(column.values(), lambda timed: timed.line.row) for column in columns])
+    if APART in options.only:
+        print_table(options, [compared(column) for column in columns], tells_growth=True)
+    print_long(options, long)
     stolen = program.stolen_since(ticks)
     print(f"Given to others by the machine's host: {stolen:.0%} of the time with work")
     return 1 if long else 0

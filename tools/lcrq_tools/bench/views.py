@@ -1,20 +1,21 @@
-"""Several viewers at once: how long their calls take beside one viewer's and beside `run`, and how
-much memory they need.
+"""Several viewers at once: how long their calls take beside one viewer's and beside `run`, and how much memory they
+need.
 
     python3 tools/bench.py views [--program P] [--runs N] [--lines N] [--null]
 
-Timed are `view` of four scripts of N lines each, `view` of one script of 4 N lines, and `run` of
-that script, in turn; standard output gets one Markdown table. Every other line of a script is a
-step, the others are `len`. The replies are counted: each viewer has one reply for each of its
-lines, and the history follows. With --null they go into /dev/null instead, where a write costs next
-to nothing. Only Python's standard library is used.
+Timed are `view` of four scripts of N lines each, `view` of one script of 4 N lines, and `run` of that script, in turn;
+standard output gets one Markdown table. Every other line of a script is a step, the others are `len`. The replies are
+counted: each viewer has one reply for each of its lines, and the history follows. With --null they go into /dev/null
+instead, where a write costs next to nothing. Only Python's standard library is used.
 """
 
-import sys
+import functools
+import itertools
 import tempfile
 from pathlib import Path
 
 from lcrq_tools import program
+from lcrq_tools.bench.measures import SPREAD, in_turn, print_times, script_in, watched
 from lcrq_tools.faults import Parser
 from lcrq_tools.options import add_program
 
@@ -27,38 +28,16 @@ def script_of(actor: int, lines: int) -> list[str]:
     return [line for number in range(lines // 2) for line in (steps[number % 12], "len")]
 
 
-def ways_of(built: str, lines: int, folder: Path) -> list[tuple[str, list[str], int]]:
-    """The three ways: a name, the words, and how many lines are to be written."""
+def runs_of(lines: int, folder: Path) -> dict[str, tuple[list[str], int]]:
+    """The three ways by their names: the words, and how many lines are to be written."""
     scripts = [script_of(number, lines) for number in range(1, VIEWERS + 1)]
-    whole = [line for script in scripts for line in script]
-    names = [str(folder / f"viewer-{number}") for number in range(1, VIEWERS + 1)]
-    for name, script in zip([*names, str(folder / "whole")], [*scripts, whole]):
-        Path(name).write_text("".join(line + "\n" for line in script), encoding="ascii")
-    total, together = VIEWERS * lines, str(folder / "whole")
-    return [
-        (f"`view`, {VIEWERS} viewers of {lines:,} lines", [built, "view", *names], total + VIEWERS + 1),
-        (f"`view`, one viewer of {total:,} lines", [built, "view", together], total + 2),
-        (f"`run` of {total:,} lines", [built, "run", together], total),
-    ]
-
-
-def measure(built: str, runs: int, lines: int, keeps: bool) -> int:
-    """Times the three ways in turn, and prints the table; returns the exit status."""
-    with tempfile.TemporaryDirectory() as folder:
-        ways = ways_of(built, lines, Path(folder))
-        taken: dict[str, list[program.Watched]] = {name: [] for name, _, _ in ways}
-        for _ in range(runs):
-            for name, words, wanted in ways:
-                ended = program.watch(words, keeps=keeps)
-                taken[name].append(ended)
-                if ended.status or keeps and ended.output.count(b"\n") != wanted:
-                    print(f"{name}: status {ended.status}, or not {wanted} lines", file=sys.stderr)
-                    return 1
-    program.print_head("What", "Median", "Least", "Greatest", "Peak")
-    for name, runs_of_it in taken.items():
-        times = [f"{one:.3f} s" for one in program.spread_of([it.seconds for it in runs_of_it])]
-        program.print_row(name, *times, f"{max(it.peak_kib for it in runs_of_it) / 1024:.0f} MiB")
-    return 0
+    files = [str(script_in(folder / f"viewer-{number}", script)) for number, script in enumerate(scripts, 1)]
+    whole, total = str(script_in(folder / "whole", itertools.chain(*scripts))), VIEWERS * lines
+    return {
+        f"`view`, {VIEWERS} viewers of {lines:,} lines": (["view", *files], total + VIEWERS + 1),
+        f"`view`, one viewer of {total:,} lines": (["view", whole], total + 2),
+        f"`run` of {total:,} lines": (["run", whole], total),
+    }
 
 
 def main() -> int:
@@ -68,4 +47,14 @@ def main() -> int:
     parser.add_argument("--lines", type=int, default=20_000, help="lines of each script (20000)")
     parser.add_argument("--null", action="store_true", help="write into /dev/null")
     given = parser.parse_args()
-    return measure(given.program, given.runs, given.lines, not given.null)
+    with tempfile.TemporaryDirectory() as folder:
+        ways = {
+            name: functools.partial(watched, name, [given.program, *words], wanted, keeps=not given.null)
+            for name, (words, wanted) in runs_of(given.lines, Path(folder)).items()
+        }
+        taken = in_turn(ways, given.runs)
+    program.print_head("What", *SPREAD, "Peak")
+    for name, runs in taken.items():
+        peak = max(run.peak_kib for run in runs) / 1024
+        print_times(name, [run.seconds for run in runs], "{:.3f} s", f"{peak:.0f} MiB")
+    return 0

@@ -2,20 +2,19 @@
 
     python3 tools/contracts.py
 
-Standard output gets a Markdown table in the order of crates.txt, a row a crate, without those that
-have `test` in their names: functions with clauses; clauses; clauses with a line wider than 100
-columns; and clauses that apply a function of `VIEWS` to a value before or after a call, or to a part
-of it, as in `state self.old`. The last row is the sum. Tests in `src/` don't count. Only Python's
-standard library is used.
+Standard output gets a Markdown table in the order of crates.txt, a row a crate, without those that have `test` in their
+names: functions with clauses; clauses; clauses with a line wider than 100 columns; and clauses that apply a function of
+`VIEWS` to a value before or after a call, or to a part of it, as in `state self.old`. The last row is the sum. Tests in
+`src/` don't count. Only Python's standard library is used.
 """
 
 import re
+from collections import Counter
 from pathlib import Path
-from typing import NamedTuple
 
 from lcrq_tools.faults import Parser
 from lcrq_tools.look.contracts import functions_of, imports_of
-from lcrq_tools.look.lines import crate_names, kind_of
+from lcrq_tools.look.lines import crate_names, kind_of, sources_of
 from lcrq_tools.program import CRATES, print_head, print_row
 
 WIDTH = 100  # columns: a clause with a longer line is wide
@@ -28,15 +27,7 @@ VIEWS = (
     "live_entries", "making_count", "model", "name_room", "pending_bytes", "position_count",
     "probe_count", "room", "segment_contents", "session_of", "spare", "state", "track", "view",
 )
-
-
-class Counts(NamedTuple):
-    """How many functions with clauses a crate has, and clauses; of these wide ones, and ones with a view."""
-
-    functions: int
-    clauses: int
-    wide: int
-    views: int
+COLUMNS = ("Functions with clauses", "Clauses", f"Wider than {WIDTH} columns", "Cite a view by a function")
 
 
 def view_in(path: Path) -> re.Pattern[str]:
@@ -45,32 +36,27 @@ def view_in(path: Path) -> re.Pattern[str]:
     return re.compile(rf"(?<![\w.])(?:{'|'.join(sorted({*VIEWS, *renamed}))}) \(*\w+(?:\.\w+)*\.(?:old|new|now)\b")
 
 
-def counts_in(path: Path) -> Counts:
-    """The counts of a source file."""
-    view, functions = view_in(path), [it for it in functions_of(path) if it.clauses]
+def counts_in(path: Path) -> Counter[str]:
+    """The counts of a source file, by column."""
+    view, functions = view_in(path), [function for function in functions_of(path) if function.clauses]
     texts = [clause.text for function in functions for clause in function.clauses]
     wide = sum(any(len(line) > WIDTH for line in text.splitlines()) for text in texts)
-    return Counts(len(functions), len(texts), wide, sum(bool(view.search(text)) for text in texts))
+    counts = len(functions), len(texts), wide, sum(bool(view.search(text)) for text in texts)
+    return Counter(dict(zip(COLUMNS, counts)))
 
 
-def sum_of(counts: list[Counts]) -> Counts:
-    """The sum of counts."""
-    return Counts(*(sum(column) for column in zip(Counts(0, 0, 0, 0), *counts)))
-
-
-def counts_of(crate: str) -> Counts:
-    """The counts of a crate."""
-    folder = CRATES / crate
-    paths = sorted((folder / "src").rglob("*.rt"))
-    return sum_of([counts_in(path) for path in paths if kind_of(path.relative_to(folder).parts) == "code"])
+def counts_of(crate: Path) -> Counter[str]:
+    """The counts of a crate, by column."""
+    paths = (path for path in sources_of(crate) if kind_of(path.relative_to(crate).parts) == "code")
+    return sum(map(counts_in, paths), Counter[str]())
 
 
 def print_counts() -> None:
     """Prints the table."""
-    print_head("Crate", "Functions with clauses", "Clauses", f"Wider than {WIDTH} columns", "Cite a view by a function")
-    rows = {name: counts_of(name) for name in crate_names() if "test" not in name}
-    for name, counts in [*rows.items(), ("all", sum_of([*rows.values()]))]:
-        print_row(name, *(f"{count:,}" for count in counts))
+    print_head("Crate", *COLUMNS)
+    rows = {name: counts_of(CRATES / name) for name in crate_names() if "test" not in name}
+    for name, counts in [*rows.items(), ("all", sum(rows.values(), Counter[str]()))]:
+        print_row(name, *(f"{counts[column]:,}" for column in COLUMNS))
 
 
 def main() -> int:

@@ -1,8 +1,7 @@
-"""The contracts, definitions and types of the crates, read off the layout that `rt fmt` gives.
+"""Reads contracts, definitions and types of the crates off the layout that `rt fmt` gives, for what looks at them.
 
-`functions_of` gives the functions of a source file, each with its clauses, and `blocks_of` the
-definitions of a file of definitions, or the types and constants of a source file. `labels_of` and
-`names_in` are for pages that name these.
+`functions_of` gives the functions of a source file, each with its clauses, and `blocks_of` the definitions of a file of
+definitions, or the types and constants of a source file. `labels_of` and `names_in` are for pages that name these.
 """
 
 import functools
@@ -62,10 +61,10 @@ def crate_of(path: Path) -> str:
 # ---- Functions -----------------------------------------------------------------------------------
 
 
-def clauses_at(lines: Sequence[str], at: int) -> list[Clause]:
+def clauses_at(lines: Sequence[str], first: int) -> list[Clause]:
     """The clauses from this line on."""
     found: list[Clause] = []
-    for line in lines[at:]:
+    for line in lines[first:]:
         if begins := CLAUSE.match(line):
             found.append(Clause(begins[1], begins[2], line.rstrip(";")))
         elif found and found[-1].text.count("{") != found[-1].text.count("}"):
@@ -92,11 +91,11 @@ def functions_of(path: Path) -> list[Function]:
     lines = lines_of(path)
     header: str | None = None
     found: list[Function] = []
-    for at, line in enumerate(lines):
+    for number, line in enumerate(lines):
         if OWNER.match(line) or line == "}":
             header = line if line != "}" else None
         elif begins := FUNCTION.match(line):
-            found.append(function_at(lines, at, begins, header))
+            found.append(function_at(lines, number, begins, header))
     return found
 
 
@@ -104,10 +103,9 @@ def functions_of(path: Path) -> list[Function]:
 
 
 def last_line_of(lines: Sequence[str], first: int, suffix: str) -> int:
-    """The last line of a definition, before a blank one, or of a type, whose brace or semicolon is
-    not indented."""
+    """The last line of a definition, before a blank one, or of a type, whose brace or semicolon is not indented."""
     end = END[suffix]
-    last = next((at for at in range(first, len(lines)) if end.match(lines[at])), len(lines) - 1)
+    last = next((number for number in range(first, len(lines)) if end.match(lines[number])), len(lines) - 1)
     return last if lines[last].strip() else last - 1
 
 
@@ -124,8 +122,8 @@ def block_at(lines: list[str], first: int, suffix: str) -> str:
 def blocks_of(path: Path) -> dict[str, str]:
     """The definitions of a file of definitions, or the types of a source file, by their names."""
     begins, lines = {".antt": DEFINITION, ".rt": TYPE}[path.suffix], lines_of(path)
-    found = ((at, begins.match(line)) for at, line in enumerate(lines))
-    return {name[1]: block_at(lines, at, path.suffix) for at, name in found if name}
+    found = ((first, begins.match(line)) for first, line in enumerate(lines))
+    return {name[1]: block_at(lines, first, path.suffix) for first, name in found if name}
 
 
 def without_ghosts(text: str) -> str:
@@ -144,8 +142,8 @@ def code_of(text: str, suffix: str) -> str:
 
 
 def parts_of(text: str) -> tuple[str, list[tuple[str, str]]]:
-    """A struct without comments as its first line, and the names and types of its fields; another
-    block is whole, with no field."""
+    """A struct without comments as its first line, and the names and types of its fields; another block is whole, with
+    no field."""
     found: list[tuple[str, str]] = []
     lines = text.splitlines()
     if not STRUCT.match(text):
@@ -160,13 +158,13 @@ def parts_of(text: str) -> tuple[str, list[tuple[str, str]]]:
 
 @functools.cache
 def imports_of(path: Path) -> dict[str, tuple[str, str | None]]:
-    """What each imported name of a file stands for: a module of definitions, and the name there, or
-    none for the module itself."""
+    """What each imported name of a file stands for: a module of definitions, and the name there, or none for the module
+    itself."""
     found: dict[str, tuple[str, str | None]] = {}
     for module, names, alias in IMPORT.findall("\n".join(lines_of(path))):
         if alias:
             found[alias] = (module, None)
-        for name in (it.strip() for it in names.split(",") if it.strip()):
+        for name in filter(None, map(str.strip, names.split(","))):
             original, _, renamed = name.partition(" as ")
             found[renamed or original] = (module, original)
     return found
@@ -176,19 +174,20 @@ def imports_of(path: Path) -> dict[str, tuple[str, str | None]]:
 
 
 def labels_of(path: Path, name: str) -> set[str | None] | None:
-    """The labels of what a file promises under a name: a function's clauses, a type's ghost fields, a
-    record's fields; none if the file has no such name."""
+    """The labels of what a file promises under a name: a function's clauses, a type's ghost fields, a record's fields;
+    none if the file has no such name."""
     owner, _, short = name.rpartition("::")
-    named = [it for it in functions_of(path) if it.name == short and owner in ("", "laws", it.owner)]
-    text = blocks_of(path).get(short)
+    functions = [function for function in functions_of(path) if function.name == short]
+    named = [function for function in functions if owner in ("", "laws", function.owner)]
     if named:
-        return {clause.label for it in named for clause in it.clauses}
+        return {clause.label for function in named for clause in function.clauses}
+    text = blocks_of(path).get(short)
     return None if text is None else set(MEMBER.findall(text))
 
 
 def names_in(path: Path) -> set[str]:
-    """The names that a file of a crate has: its own, those of functions, clauses, definitions, lemmas,
-    types and their members, and what it imports."""
+    """The names that a file of a crate has: its own, those of functions, clauses, definitions, lemmas, types and their
+    members, and what it imports."""
     found = {path.stem, *path.relative_to(CRATES).parts}
     if path.suffix == ".rt":
         for function in functions_of(path):

@@ -2,23 +2,21 @@
 
     python3 tools/definitions.py [--text] [FILE FUNCTION[.LABEL]..]..
 
-FILE is a source file, named from `crates/`, and each FUNCTION one of its functions: with a LABEL
-its clause of this label (`Book::obey.answer`), else all that it ensures. What a function requires
-goes with each of its clauses. A type in place of a FUNCTION means what each of its values keeps, as
-`World.well_formed`. Without a FILE it is the clause that carries the headline over a list of
-commands, from which the record `Headline` is reached.
+FILE is a source file, named from `crates/`, and each FUNCTION one of its functions: with a LABEL its clause of this
+label (`Book::obey.answer`), else all that it ensures. What a function requires goes with each of its clauses. A type in
+place of a FUNCTION means what each of its values keeps, as `World.well_formed`. Without a FILE it is the clause that
+carries the headline over a list of commands, from which the record `Headline` is reached.
 
-The words of a clause are followed through `ghost use` into `specs/`, from there through the imports
-of each definition, and from types of the code into `src/`. The type of a field is followed only if
-something that is reached names the field. Ghost fields are left out, since the checker proves them.
-Names are found by their words, so a few definitions too many may be listed.
+The words of a clause are followed through `ghost use` into `specs/`, from there through the imports of each definition,
+and from types of the code into `src/`. The type of a field is followed only if something that is reached names the
+field. Ghost fields are left out, since the checker proves them. Names are found by their words, so a few definitions
+too many may be listed.
 
-Standard output gets a Markdown table from the contract down: a row a file, in the order in which
-the files are reached, with the lines of what is listed that are neither blank nor a comment alone,
-and those of the comments above and inside it. The rows after the total are the kit's files with the
-names that are taken from them, operators left out; of a type also the fields that are named. What
-these names reach in turn is not listed. With `--text` standard output gets the definitions
-themselves, in this order. Only Python's standard library is used.
+Standard output gets a Markdown table from the contract down: a row a file, in the order in which the files are reached,
+with the lines of what is listed that are neither blank nor a comment alone, and those of the comments above and inside
+it. The rows after the total are the kit's files with the names that are taken from them, operators left out; of a type
+also the fields that are named. What these names reach in turn is not listed. With `--text` standard output gets the
+definitions themselves, in this order. Only Python's standard library is used.
 """
 
 import collections
@@ -27,7 +25,7 @@ import re
 import signal
 from collections.abc import ItemsView, Iterable, Iterator, Sequence
 from pathlib import Path
-from typing import NamedTuple
+from typing import NamedTuple, TypeVar
 
 from lcrq_tools.faults import Fault, Parser
 from lcrq_tools.look.contracts import (
@@ -35,7 +33,7 @@ from lcrq_tools.look.contracts import (
     without_ghosts,
 )
 from lcrq_tools.look.kit import fields_of, place_of, shown
-from lcrq_tools.look.lines import COMMENT, crate_names
+from lcrq_tools.look.lines import COMMENT, crate_names, sources_of
 from lcrq_tools.program import CRATES, print_head, print_row
 
 # The clause that carries the headline, as on a command line: this is the one place that names it.
@@ -44,6 +42,9 @@ WORD = re.compile(r"(?<![.\w])[A-Za-z_]\w*")
 TYPE_NAME = re.compile(r"\b[A-Z]\w*")
 NAMED_FIELD = re.compile(r"\.(\w+)|[{;]\s(\w+) = ")
 FROM_CRATE = re.compile(r"^use (\w+)::([^;]*);", re.MULTILINE)
+
+Key = TypeVar("Key")
+Value = TypeVar("Value")
 
 
 class Unknown(Fault):
@@ -67,35 +68,36 @@ class OfKit(NamedTuple):
     name: str
 
 
+def grouped(pairs: Iterable[tuple[Key, Value]]) -> dict[Key, list[Value]]:
+    """The second members of pairs as lists, by the first ones."""
+    found: dict[Key, list[Value]] = {}
+    for key, value in pairs:
+        found.setdefault(key, []).append(value)
+    return found
+
+
 @functools.cache
 def types() -> dict[str, list[Path]]:
     """The source files that have a type of each name."""
-    found: dict[str, list[Path]] = {}
-    for crate in crate_names():
-        for path in sorted((CRATES / crate / "src").rglob("*.rt")):
-            for name in blocks_of(path):
-                found.setdefault(name, []).append(path)
-    return found
+    paths = (path for crate in crate_names() for path in sources_of(CRATES / crate))
+    return grouped((name, path) for path in paths for name in blocks_of(path))
 
 
 @functools.cache
 def crates_of_names(path: Path) -> dict[str, list[str]]:
     """The crates from which a source file imports each name."""
-    found: dict[str, list[str]] = {}
-    for crate, names in FROM_CRATE.findall("\n".join(lines_of(path))):
-        for name in re.findall(r"\w+", names):
-            found.setdefault(name, []).append(crate)
-    return found
+    uses = FROM_CRATE.findall("\n".join(lines_of(path)))
+    return grouped((name, crate) for crate, names in uses for name in re.findall(r"\w+", names))
 
 
 def type_named(name: str, path: Path) -> Own | OfKit | None:
     """The type of this name that a source file means: its own, its crate's, or an imported one."""
     files, crates = types().get(name, []), crates_of_names(path).get(name, [])
-    own = [it for it in files if it == path]
-    of_crate = [it for it in files if crate_of(it) == crate_of(path)]
-    of_others = [it for it in files if crate_of(it) in crates]
-    for it in own + of_crate + of_others:
-        return Own(it, name)
+    own = [file for file in files if file == path]
+    of_crate = [file for file in files if crate_of(file) == crate_of(path)]
+    of_others = [file for file in files if crate_of(file) in crates]
+    for file in own + of_crate + of_others:
+        return Own(file, name)
     of_kit = (OfKit(crate, name) for crate in crates if name[0].isupper() and is_of_kit(crate))
     return next(of_kit, None)
 
@@ -140,7 +142,7 @@ def meant(name: str, path: Path) -> Own | OfKit | None:
 def functions_named(path: Path, name: str) -> list[Function]:
     """The functions of a source file that a name means, as `obey` or `Book::obey`."""
     owner, _, short = name.rpartition("::")
-    found = [it for it in functions_of(path) if it.name == short and owner in ("", it.owner)]
+    found = [function for function in functions_of(path) if function.name == short and owner in ("", function.owner)]
     if not found:
         raise Unknown(f"no function {name} in {path.relative_to(CRATES)}")
     return found
@@ -150,13 +152,13 @@ def kept_by(path: Path, name: str) -> Function:
     """A type as a function that ensures what each value of the type keeps."""
     text = blocks_of(path)[name]
     head = next(line for line in text.splitlines() if not line.startswith(COMMENT[path.suffix]))
-    fields = [Clause("ensures", it[1], it[0].rstrip(",\n")) for it in GHOST_FIELD.finditer(text)]
+    fields = [Clause("ensures", field[1], field[0].rstrip(",\n")) for field in GHOST_FIELD.finditer(text)]
     return Function(None, name, True, head.rstrip("{ "), tuple(fields))
 
 
 def clauses_of(path: Path, name: str, label: str) -> list[tuple[Function, Clause]]:
-    """What the functions of this name require, and what they ensure, by this label if there is one;
-    each clause with its function. What a type keeps stands for what it ensures."""
+    """What the functions of this name require, and what they ensure, by this label if there is one; each clause with
+    its function. What a type keeps stands for what it ensures."""
     functions = [kept_by(path, name)] if name in blocks_of(path) else functions_named(path, name)
     found = [(function, clause) for function in functions for clause in function.clauses]
     ensured = [clause for _, clause in found if clause.kind == "ensures"]
@@ -202,8 +204,8 @@ class Reached:
             for word in dict.fromkeys(WORD.findall(text)):
                 self.follow_word(path, word)
             self.read |= {name or key for name, key in NAMED_FIELD.findall(text)}
-            self.waiting.extend((at, type_) for at, name, type_ in self.unread if name in self.read)
-            self.unread = [it for it in self.unread if it[1] not in self.read]
+            self.waiting.extend((file, type_) for file, name, type_ in self.unread if name in self.read)
+            self.unread = [field for field in self.unread if field[1] not in self.read]
 
     def follow_word(self, path: Path, word: str) -> None:
         """Adds what a word means in a file, if it means anything that isn't there yet."""
@@ -220,15 +222,13 @@ class Reached:
         return code, sum(bool(line.strip()) for line in text.splitlines()) - code
 
     def totals(self) -> tuple[int, int, int, int]:
-        """How many definitions and types there are, in how many files, with how many lines of code
-        and of comments."""
-        counts = [self.counts(*it) for it in self.texts]
-        files = {path for path, _ in self.texts}
-        return len(counts), len(files), sum(code for code, _ in counts), sum(comments for _, comments in counts)
+        """How many definitions and types there are, in how many files, with how many lines of code and of comments."""
+        code, comments = (sum(column) for column in zip((0, 0), *(self.counts(*own) for own in self.texts)))
+        return len(self.texts), len({path for path, _ in self.texts}), code, comments
 
     def from_kit(self) -> Iterator[tuple[str, list[str]]]:
-        """The kit's files with the names that are taken from them, each with the name that it is
-        given here, if it is another one, and with those fields of a type that something names."""
+        """The kit's files with the names that are taken from them, each with the name that it is given here, if it is
+        another one, and with those fields of a type that something names."""
         files: dict[Path | str, dict[str, str]] = {}
         for module, name in sorted(self.taken):
             place = place_of(module, name)
@@ -276,10 +276,7 @@ def reached_from(words: Sequence[str]) -> Reached:
 
 def by_file(named: Iterable[tuple[Path, str]]) -> ItemsView[Path, list[str]]:
     """Names as lists, by their files."""
-    files: dict[Path, list[str]] = {}
-    for path, name in named:
-        files.setdefault(path.relative_to(CRATES), []).append(name)
-    return files.items()
+    return grouped((path.relative_to(CRATES), name) for path, name in named).items()
 
 
 def clause_names(reached: Reached) -> Iterator[tuple[Path, str]]:

@@ -1,17 +1,15 @@
-"""Shows where the processor minutes of a gate go: proofs, proofs of tests and must-fail edits, crate by
-crate.
+"""Shows where the processor minutes of a gate go: proofs, proofs of tests and must-fail edits, crate by crate.
 
     python3 tools/gate.py --watch TIMES
     python3 tools/gate.py TIMES.. [--run NUMBER]..
 
-With --watch it looks five times a second at the checker's processes on this machine, and appends a
-line to TIMES for each that has ended: processor seconds, seconds, most memory in KiB, the folder
-that it was called in, and its words, with tabs between. It goes on until it is stopped. Start it
-before `rt ci`.
+With --watch it looks five times a second at the checker's processes on this machine, and appends a line to TIMES for
+each that has ended: processor seconds, seconds, most memory in KiB, the folder that it was called in, and its words,
+with tabs between. It goes on until it is stopped. Start it before `rt ci`.
 
-Otherwise it prints a table for each TIMES. With --run, calls count only if their folder names this
-process number of an `rt ci`, so that checks by hand at the same time don't. The unit is one proof
-of rd_step alone. Only Python's standard library is used.
+Otherwise it prints a table for each TIMES. With --run, calls count only if their folder names this process number of an
+`rt ci`, so that checks by hand at the same time don't. The unit is one proof of rd_step alone. Only Python's standard
+library is used.
 """
 
 import os
@@ -22,7 +20,7 @@ from collections.abc import Sequence
 from typing import NamedTuple, NoReturn
 
 from lcrq_tools.faults import Parser
-from lcrq_tools.program import print_head, print_row
+from lcrq_tools.program import peak_of, print_head, print_row
 
 UNIT = ("rd_step", "proofs")
 KINDS = ("proofs", "tests", "edits")
@@ -52,9 +50,16 @@ def text_of(path: str) -> bytes:
         return b""
 
 
+def folder_of(number: str) -> str:
+    """The folder in which a process runs; nothing if it has gone."""
+    try:
+        return os.readlink(f"/proc/{number}/cwd")
+    except OSError:
+        return ""
+
+
 def look() -> dict[tuple[str, str], Seen]:
-    """The checker's processes: processor seconds, most memory, folder and words, by number and
-    start."""
+    """The checker's processes: processor seconds, most memory, folder and words, by number and start."""
     found: dict[tuple[str, str], Seen] = {}
     tick = os.sysconf("SC_CLK_TCK")
     for number in filter(str.isdigit, os.listdir("/proc")):
@@ -63,15 +68,10 @@ def look() -> dict[tuple[str, str], Seen]:
             continue
         fields = stat[stat.rindex(b")") + 2:].split()
         words = text_of(f"/proc/{number}/cmdline").decode(errors="replace")
-        peak = re.search(rb"VmHWM:\s+(\d+)", text_of(f"/proc/{number}/status"))
-        try:
-            folder = os.readlink(f"/proc/{number}/cwd")
-        except OSError:
-            folder = ""
         # its own time, and that of the processes that it started and that have ended
         seconds = sum(map(int, fields[11:15])) / tick
         called = re.sub(r"[\0\t\n]", " ", words)
-        found[number, fields[19].decode()] = Seen(seconds, int(peak[1]) if peak else 0, folder, called)
+        found[number, fields[19].decode()] = Seen(seconds, peak_of(int(number)), folder_of(number), called)
     return found
 
 
@@ -89,7 +89,7 @@ def watch(path: str) -> NoReturn:
                 began.setdefault(key, time.time())
             # a process that is ending has no memory, folder or words any more: what was seen before
             # stays
-            seen |= {key: one for key, one in now.items() if one.words or key not in seen}
+            seen |= {key: process for key, process in now.items() if process.words or key not in seen}
             time.sleep(LOOK_EVERY)
 
 
@@ -124,7 +124,7 @@ def show(times: Times) -> None:
     """Prints the table of one gate."""
     unit, total = times[UNIT] or 1.0, sum(times.values())
     print_head("Crate", "Proofs", "Tests", "Edits", "Share")
-    for crate in sorted({crate for crate, _ in times}, key=lambda it: -sum(times[it, kind] for kind in KINDS)):
+    for crate in sorted({crate for crate, _ in times}, key=lambda crate: -sum(times[crate, kind] for kind in KINDS)):
         parts = [times[crate, kind] / unit for kind in KINDS]
         print_row(crate, *(f"{part:.1f}" for part in parts), f"{sum(parts) * unit / total:.0%}")
     sums = [sum(seconds for (_, kind), seconds in times.items() if kind == which) for which in KINDS]

@@ -1,8 +1,8 @@
-"""Where the kit's files define the names that the project takes from it.
+"""Finds where the kit's files define the names that the project takes from it, for `definitions.py`.
 
-`place_of` follows a name from the module that it is imported from, through the modules that pass it
-on, to the file that defines it; `fields_of` gives the fields that definitions see of a type. Both go
-by words, as `definitions.py` does. Where there is no `rt`, a module stands for its file.
+`place_of` follows a name from the module that it is imported from, through the modules that pass it on, to the file
+that defines it; `fields_of` gives the fields that definitions see of a type. Both go by words, as `definitions.py`
+does. Where there is no `rt`, a module stands for its file.
 """
 
 import functools
@@ -15,6 +15,7 @@ from pathlib import Path
 from typing import NamedTuple
 
 from lcrq_tools.look.contracts import blocks_of, imports_of
+from lcrq_tools.look.lines import sources_of
 
 STD = ["std", "core", "std_alloc", "std_collections", "std_heap", "std_io"]  # what `std` consists of
 BUILT_IN = "the checker itself"
@@ -78,8 +79,7 @@ def file_of(module: str) -> Path | None:
 
 def type_at(crate: str, name: str, near: Collection[str] = ()) -> Place:
     """The place of a type of a crate's code, of those of its name in the file that is nearest."""
-    sources = [path for folder in folders_of(crate) for path in sorted((folder / "src").rglob("*.rt"))]
-    found = [path for path in sources if name in blocks_of(path)]
+    found = [path for folder in folders_of(crate) for path in sources_of(folder) if name in blocks_of(path)]
     found.sort(key=lambda path: len(set(path.with_suffix("").parts) & set(near)), reverse=True)
     return Place(found[0], name) if found else Place(crate, name)
 
@@ -93,7 +93,7 @@ def place_of(module: str, name: str) -> Place:
         return type_at(root, name)
     if "declared" in names:
         near = names[names.index("declared") + 1 :]
-        owners = [it for it in near if it[0].isupper() and it not in ("TheVariants", "TheViews")]
+        owners = [word for word in near if word[0].isupper() and word not in ("TheVariants", "TheViews")]
         return Place(type_at(names[0], owners[-1] if owners else name, near).file, name)
     path = file_of(module)
     if path:
@@ -127,14 +127,13 @@ def meaning_of(place: Place) -> Place:
 
 
 def fields_of(place: Place) -> tuple[Place, list[str]]:
-    """The place of a type as definitions see it, with the names of its fields; none of what is no
-    type."""
+    """The place of a type as definitions see it, with the names of its fields; none of what is no type."""
     if place.name[0].islower() or not isinstance(place.file, Path):
         return place, []
     seen = [place] if place.file.suffix == ".antt" else [*views_of(place.file, place.name), place]
-    for there in map(meaning_of, seen):
-        if re.search(r"\b(?:record|struct)\b", text_at(there)):
-            return there, FIELD.findall(text_at(there))
+    for meaning in map(meaning_of, seen):
+        if re.search(r"\b(?:record|struct)\b", text_at(meaning)):
+            return meaning, FIELD.findall(text_at(meaning))
     return place, []
 
 

@@ -2,15 +2,15 @@
 
     python3 tools/lines.py
 
-It prints a Markdown table, a row a crate in the order of crates.txt. Code is what `src/` has but
-tests, contracts included; definitions are `specs/`, proofs are `proofs/`; tests are `src/tests.rt`,
-`src/tests/` and the proofs of these, in the crate or in the one with `_tests` after its name, and
-all that the crates of several crates' tests and `test_kit` have. Which definitions a contract reaches is said by
-`definitions.py`.
+It prints a Markdown table, a row a crate in the order of crates.txt. Code is what `src/` has but tests, contracts
+included; definitions are `specs/`, proofs are `proofs/`; tests are `src/tests.rt`, `src/tests/` and the proofs of
+these, in the crate or in the one with `_tests` after its name, and all that the crates of several crates' tests and
+`test_kit` have. Which definitions a contract reaches is said by `definitions.py`.
 
 A line counts if it is neither blank nor a comment alone. Only Python's standard library is used.
 """
 
+from collections import Counter
 from collections.abc import Sequence
 from pathlib import Path
 
@@ -42,15 +42,14 @@ def kind_of(parts: Sequence[str]) -> str | None:
     return {"src": "code", "specs": "definitions", "proofs": "proofs"}[parts[0]]
 
 
-def counts_of(crate: Path) -> dict[str, int]:
+def counts_of(crate: Path) -> Counter[str]:
     """The lines of a crate by their kind."""
-    counts = dict.fromkeys(KINDS, 0)
-    for path in sorted(crate.rglob("*")):
+    counts = Counter(dict.fromkeys(KINDS, 0))
+    has_tests_alone = crate.name.endswith(TESTS) or crate.name == KIT
+    for path in crate.rglob("*"):
         kind = kind_of(path.relative_to(crate).parts)
-        if kind and (crate.name.endswith(TESTS) or crate.name == KIT):
-            kind = "tests"
         if kind and path.suffix in COMMENT:
-            counts[kind] += lines_in(path)
+            counts["tests" if has_tests_alone else kind] += lines_in(path)
     return counts
 
 
@@ -60,24 +59,22 @@ def crate_names() -> list[str]:
     return [row.split(":")[0].split()[0] for row in rows if row.strip()]
 
 
-def print_counts(name: str, counts: dict[str, int]) -> None:
-    """Prints a row of the table."""
-    print_row(name, *(f"{counts[kind]:,}" for kind in KINDS), f"{sum(counts.values()):,}")
+def sources_of(crate: Path) -> list[Path]:
+    """The source files of a crate."""
+    return sorted((crate / "src").rglob("*.rt"))
 
 
 def print_crates() -> None:
-    """Prints the table of all crates."""
-    total = dict.fromkeys(KINDS, 0)
-    print_head("Crate", "Code", "Definitions", "Proofs", "Tests", "All")
+    """Prints the table of all crates, each with the crate of its tests."""
     names = crate_names()
-    for name in names:
-        if name.endswith(TESTS) and name.removesuffix(TESTS) in names:
-            continue
-        counts, tests = counts_of(CRATES / name), counts_of(CRATES / (name + TESTS))
-        counts["tests"] += tests["tests"]
-        print_counts(name, counts)
-        total = {kind: total[kind] + counts[kind] for kind in KINDS}
-    print_counts("all", total)
+    rows = {
+        name: counts_of(CRATES / name) + counts_of(CRATES / (name + TESTS))
+        for name in names
+        if not name.endswith(TESTS) or name.removesuffix(TESTS) not in names
+    }
+    print_head("Crate", "Code", "Definitions", "Proofs", "Tests", "All")
+    for name, counts in [*rows.items(), ("all", sum(rows.values(), Counter[str]()))]:
+        print_row(name, *(f"{counts[kind]:,}" for kind in KINDS), f"{counts.total():,}")
 
 
 def main() -> int:

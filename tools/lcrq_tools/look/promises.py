@@ -2,11 +2,11 @@
 
     python3 tools/promises.py [CRATE..]
 
-Standard output gets a Markdown table in the order of crates.txt, or of the crates that are named: a
-row a function or type, with the labels of its clauses, and its file. A clause without a label is
-`-`; `keeps` comes before the ghost fields of a type; a law is a function of `laws`. Public is what
-the crate's `lib.rt` names. Which promises carry the guarantees is in docs/PROVED.md, and what the
-words of a clause mean is printed by `definitions.py`. Only Python's standard library is used.
+Standard output gets a Markdown table in the order of crates.txt, or of the crates that are named: a row a function or
+type, with the labels of its clauses, and its file. A clause without a label is `-`; `keeps` comes before the ghost
+fields of a type; a law is a function of `laws`. Public is what the crate's `lib.rt` names. Which promises carry the
+guarantees is in docs/PROVED.md, and what the words of a clause mean is printed by `definitions.py`. Only Python's
+standard library is used.
 """
 
 import functools
@@ -17,7 +17,7 @@ from pathlib import Path
 
 from lcrq_tools.faults import Fault, Parser
 from lcrq_tools.look.contracts import blocks_of, functions_of, ghosts_of, lines_of
-from lcrq_tools.look.lines import KIT, crate_names
+from lcrq_tools.look.lines import KIT, crate_names, sources_of
 from lcrq_tools.program import CRATES, print_head, print_row
 
 EXPORT = re.compile(r"^pub use (?:\w+::)*(?:\{([^}]*)\}|(\w+));", re.MULTILINE)
@@ -55,7 +55,7 @@ def print_promises(crates: Sequence[str]) -> None:
     """Prints the table of these crates."""
     print_head("Promise", "Clauses", "File")
     for crate in crates:
-        for path in sorted((CRATES / crate / "src").rglob("*.rt"), key=lambda it: it.with_suffix("").parts):
+        for path in sorted(sources_of(CRATES / crate), key=lambda path: path.with_suffix("").parts):
             for name, clauses in [*types_in(crate, path), *functions_in(crate, path)]:
                 print_row(name, clauses, path.relative_to(CRATES))
 
@@ -66,9 +66,8 @@ def main() -> int:
     parser.add_argument("crates", nargs="*", metavar="CRATE", help="a crate; else all of them")
     given = parser.parse_args()
     signal.signal(signal.SIGPIPE, signal.SIG_DFL)  # who reads the output may stop
-    crates: list[str] = given.crates
-    for name in crates:
-        if name not in crate_names():
-            raise Fault(f"no crate {name} in crates.txt")
-    print_promises(crates or [name for name in crate_names() if name != KIT])
+    known, crates = crate_names(), list[str](given.crates)
+    if unknown := [name for name in crates if name not in known]:
+        raise Fault(f"no crate {unknown[0]} in crates.txt")
+    print_promises(crates or [name for name in known if name != KIT])
     return 0
