@@ -2,19 +2,16 @@
 
     /usr/bin/python3 tools/check.py browser [NAME..] [--program P]
 
-The gate can't run it: it needs Debian's chromium, chromium-driver and python3-selenium, whose Python
-is /usr/bin/python3. It makes the page of each lesson, of the README's session, of the guide's first run
-and of a history, which has the name `viewers`, or of those that are named. It goes along all lines by the
-right arrow and back by the left one, and by End, Home, the slider, a click and the address. After each
-key it compares what is drawn with the program's replies at that line, which are asked of a new run: each
-cell, counter and end of the queue, the actors with their control points and places, the steps in their
-order, the border between live and undone ones, and the sentence that the accessibility tree has of the
-moment; and who asked the line and each step with the history. At widths of 400, 1,000 and
-1,900 pixels no text may be cut off or overlap another one, and no part may change its size along the
-run; the browser may log no error. A handout has the queue at each bookmark, or at the end. On a run of
-400 lines, which has the name `long`, a key has to be answered within 50 ms, and its page stays below 1 MB.
-Each check prints a line; the status is 1 if one fails. Where the browser is missing, each line says
-`skipped`, and the status is 1 too.
+The gate can't run it: it needs Debian's chromium, chromium-driver and python3-selenium, whose Python is
+/usr/bin/python3. It makes the page of each lesson, of the README's session, of the guide's first run and of
+a history, which has the name `viewers`, or of those that are named. It goes along all lines by the arrows,
+and by End, Home, the slider, a click and the address. After each key it compares what is drawn with
+the program's replies at that line, which are asked of a new run; with the accessibility tree; and who asked
+the line and each step with the history. At widths of 400, 1,000 and 1,900 pixels no text may be cut off or
+overlap another one, and no part may change its size along the run; the browser may log no error. A handout has
+the queue at each bookmark, or at the end. On a run of 400 lines, which has the name `long`, a key has to be
+answered within 50 ms, and its page stays below 1 MB. Each check prints a line; the status is 1 if one fails, or
+if the browser is missing, where each line says `skipped`.
 """
 
 import argparse
@@ -44,7 +41,6 @@ except ImportError:
     HAS_SELENIUM = False
 
 LONG, VIEWERS = "long", "viewers"
-OF_LONG = "a run of 400 lines"  # what its check is called
 LINES = 40  # of the history of viewers
 WIDTHS = (400, 1000, 1900)  # pixels: a phone, a window, a beamer
 HEIGHT = 1000
@@ -105,19 +101,19 @@ class Browser:
 
     def errors(self) -> str:
         """What the browser has logged, if anything."""
-        return "; ".join(it["message"] for it in self.driver.get_log("browser"))
+        return "; ".join(entry["message"] for entry in self.driver.get_log("browser"))
 
     def tree(self) -> list[shown.Node]:
         """The nodes of the accessibility tree that aren't left out, each its role, its name and more."""
         nodes = self.driver.execute_cdp_cmd("Accessibility.getFullAXTree", {})["nodes"]
         return [
             {
-                "role": it["role"]["value"],
-                "name": it.get("name", {}).get("value", ""),
-                **{prop["name"]: prop["value"].get("value") for prop in it.get("properties", [])},
+                "role": node["role"]["value"],
+                "name": node.get("name", {}).get("value", ""),
+                **{prop["name"]: prop["value"].get("value") for prop in node.get("properties", [])},
             }
-            for it in nodes
-            if not it.get("ignored") and "role" in it
+            for node in nodes
+            if not node.get("ignored") and "role" in node
         ]
 
 
@@ -125,29 +121,30 @@ class Browser:
 
 
 class Walk:
-    """A page, and the replies at each of its lines."""
+    """A page, which is written into a file, and the replies at each of its lines."""
 
     def __init__(self, browser: Browser, path: Path, arguments: argparse.Namespace) -> None:
-        self.browser, self.path, self.arguments = browser, path, arguments
-        self.asked = page.asked_of(arguments)
-        self.count = len(self.asked.lines)
+        self.browser, self.path = browser, path
+        path.write_text(page.page_of(arguments)[0], encoding="utf-8")
+        self.run = page.asked_of(arguments)
+        self.count = len(self.run.lines)
         columns = model.lines_of(model.PAGE.read_text(encoding="utf-8")).values()
         self.code = {point: "\n".join(lines).strip() for column in columns for point, lines in column.items()}
 
     @functools.cache
-    def replies(self, line: int) -> shown.Replies:
+    def moment(self, line: int) -> shown.Moment:
         """The program's replies at a line."""
-        return shown.Replies(self.asked, line)
+        return shown.Moment(self.run, line)
 
     def fault_at(self, line: int) -> str:
         """What is wrong with what is shown, if that is to be this line, or nothing."""
-        it, drawn = self.replies(line), self.browser.ask("shown()")
+        asked, drawn = self.moment(line), self.browser.ask("shown()")
         fault = (
-            shown.words_fault(drawn, it, self.browser.tree(), self.count)
-            or shown.places_fault(drawn, it)
-            or shown.order_fault(drawn, it)
-            or shown.actors_fault(drawn, it, self.code)
-            or shown.rows_fault(drawn, it)
+            shown.words_fault(drawn, asked, self.browser.tree(), self.count)
+            or shown.places_fault(drawn, asked)
+            or shown.order_fault(drawn, asked)
+            or shown.actors_fault(drawn, asked, self.code)
+            or shown.rows_fault(drawn, asked)
         )
         return f"line {line}: {fault}" if fault else ""
 
@@ -191,12 +188,12 @@ class Walk:
 
     def handout_fault(self) -> str:
         """What is wrong with the handout, or nothing: the queue at each bookmark, or at the end."""
-        moments = [self.replies(line) for line in range(self.count + 1)]
+        moments = [self.moment(line) for line in range(self.count + 1)]
         wanted = []
-        for it in [it for it in moments if it.reply.startswith("marked ")] or moments[-1:]:
-            values = {place: content for place, content in it.places.items() if place.startswith("value ")}
+        for moment in [moment for moment in moments if moment.reply.startswith("marked ")] or moments[-1:]:
+            values = {place: content for place, content in moment.contents.items() if place.startswith("value ")}
             texts = {place: "" if content == "none" else content for place, content in values.items()}
-            wanted.append([f"After line {it.line}, {it.begin}: {it.reply}", texts])
+            wanted.append([f"After line {moment.line}, {moment.begin}: {moment.reply}", texts])
         figures = self.browser.ask("handout()")
         if figures != wanted:
             return f"the handout has {figures}, wanted {wanted}"
@@ -204,15 +201,15 @@ class Walk:
 
     def dependants_fault(self) -> str:
         """Which row of the last line marks others than those that depend on it, or nothing."""
-        browser, it = self.browser, self.replies(self.count)
-        steps = [dependence.step_of(record, it.ring) for record in it.records]
+        browser, asked = self.browser, self.moment(self.count)
+        steps = [dependence.step_of(record, asked.ring) for record in asked.records]
         numbers = [row["id"] for row in browser.ask("rowsShown()")]
-        for at, number in enumerate(numbers):
-            later = zip(numbers[at + 1:], steps[at + 1:])
-            wanted = [other for other, step in later if dependence.depend(steps[at], step)]
+        for row, (number, step) in enumerate(zip(numbers, steps), 1):
+            later = zip(numbers[row:], steps[row:])
+            wanted = [other for other, after in later if dependence.depend(step, after)]
             marked = browser.ask(f"dependants({number})")
             if marked != wanted:
-                return f"row {at + 1} marks the rows {marked}, wanted {wanted}"
+                return f"row {row} marks the rows {marked}, wanted {wanted}"
         return ""
 
     def layout_fault(self) -> str:
@@ -237,62 +234,45 @@ class Walk:
 
 def long_fault(browser: Browser, folder: Path, given: argparse.Namespace) -> str:
     """What is wrong with the page of a run of 400 lines, or nothing."""
-    script, path = folder / "long.script", folder / "long.html"
-    script.write_text(run_pages.long_script(400), encoding="ascii")
-    words = [str(script), "--refused", "--program", given.program, "-o", str(path)]
-    path.write_text(page.page_of(page.parser().parse_args(words))[0], encoding="utf-8")
+    path = folder / "long.html"
+    arguments = page.parser().parse_args(run_pages.long_words(400, folder, given))
+    path.write_text(page.page_of(arguments)[0], encoding="utf-8")
     if path.stat().st_size >= run_pages.MOST_BYTES:
         return f"it has {path.stat().st_size} bytes"
     browser.resize(WIDTHS[-1])
     browser.open(path)
     keys = ["ArrowRight"] * 400 + ["ArrowLeft"] * 400
     walks: list[list[float]] = [[browser.ask(f"pressed('{key}')") for key in keys] for _ in range(WALKS)]
-    times = sorted(min(them) for them in zip(*walks))
+    times = sorted(min(tries) for tries in zip(*walks))
     print(f"      {path.stat().st_size} bytes, a key takes {times[400]:.1f} ms, the slowest {times[-1]:.1f} ms")
-    late = [it for it in times if it > MOST_MS]
+    late = [took for took in times if took > MOST_MS]
     return f"{len(late)} of 800 keys take more than {MOST_MS} ms" if late else browser.errors()
 
 
-def arguments_of(name: str, options: str, folder: Path, given: argparse.Namespace) -> argparse.Namespace:
-    """The command line of an example's page, or of that of a history at random."""
-    if name != VIEWERS:
-        return run_pages.arguments_of(name, options, given.program)
-    return page.parser().parse_args(histories.asked_of(random.Random(1), folder, LINES, given).words)
+def walk_of(browser: Browser, name: str, options: str, folder: Path, given: argparse.Namespace) -> Walk:
+    """The page of an example, or of a history at random."""
+    if name == VIEWERS:
+        words = histories.viewed_run(random.Random(1), folder, given.program, LINES).words
+        return Walk(browser, folder / f"{name}.html", page.parser().parse_args(words))
+    return Walk(browser, folder / f"{name}.html", run_pages.arguments_of(name, options, given.program))
 
 
-def chosen(given: argparse.Namespace) -> list[tuple[str, str]]:
-    """The pages that are opened, but for the long one, each with the options of its run."""
-    every = [*run_pages.pages().items(), (VIEWERS, "")]
-    return [row for row in every if not given.names or row[0] in given.names]
+def checks(browser: Browser | None, folder: Path, given: argparse.Namespace) -> Iterator[tuple[str, str]]:
+    """The checks, each a name and what is wrong, or nothing; without a browser, all are skipped."""
+    skipped = program.Skipped(missing())
+    for name, options in [*run_pages.pages().items(), (VIEWERS, "")]:
+        if not given.names or name in given.names:
+            walk = walk_of(browser, name, options, folder, given) if browser else None
+            yield f"{name}, by all keys", walk.keys_fault() if walk else skipped
+            yield f"{name}, at {len(WIDTHS)} widths", walk.layout_fault() if walk else skipped
+    if not given.names or LONG in given.names:
+        yield "a run of 400 lines", long_fault(browser, folder, given) if browser else skipped
 
 
-def names_of(name: str) -> tuple[str, str]:
-    """What the two checks of a page are called."""
-    return f"{name}, by all keys", f"{name}, at {len(WIDTHS)} widths"
-
-
-def has_long(given: argparse.Namespace) -> bool:
-    """Whether the page of the long run is opened."""
-    return not given.names or LONG in given.names
-
-
-def checks(browser: Browser, folder: Path, given: argparse.Namespace) -> Iterator[tuple[str, str]]:
-    """The checks, each a name and what is wrong, or nothing."""
-    for name, options in chosen(given):
-        arguments, path = arguments_of(name, options, folder, given), folder / f"{name}.html"
-        path.write_text(page.page_of(arguments)[0], encoding="utf-8")
-        walk = Walk(browser, path, arguments)
-        keys, widths = names_of(name)
-        yield keys, walk.keys_fault()
-        yield widths, walk.layout_fault()
-    if has_long(given):
-        yield OF_LONG, long_fault(browser, folder, given)
-
-
-def skipped(given: argparse.Namespace, missing: str) -> Iterator[tuple[str, str]]:
-    """The same checks, where this is missing."""
-    names = [check for name, _ in chosen(given) for check in names_of(name)]
-    yield from ((name, program.Skipped(missing)) for name in [*names, *[OF_LONG] * has_long(given)])
+def missing() -> str:
+    """The names of what isn't here, or nothing."""
+    names = [program.missing_of(("chromium", "chromedriver")), "" if HAS_SELENIUM else "selenium"]
+    return ", ".join(filter(None, names))
 
 
 def main() -> int:
@@ -302,12 +282,10 @@ def main() -> int:
     parser.add_argument("names", nargs="*", metavar="NAME", help=about)
     add_program(parser)
     given = parser.parse_args()
-    missing = program.missing_of(("chromium", "chromedriver"))
-    if missing or not HAS_SELENIUM:
-        return program.print_checks(skipped(given, missing if HAS_SELENIUM else f"{missing}, selenium".lstrip(", ")))
-    browser = Browser()
+    browser = None if missing() else Browser()
     try:
         with tempfile.TemporaryDirectory() as folder:
             return program.print_checks(checks(browser, Path(folder), given))
     finally:
-        browser.driver.quit()
+        if browser:
+            browser.driver.quit()

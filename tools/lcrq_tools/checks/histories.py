@@ -1,62 +1,185 @@
-"""Histories at random, for `tools/check.py pictures`, `run_pages` and `browser`.
+"""Makes scripts and histories of viewers at random, for `tools/check.py views`, `live`, `pictures`, `run_pages` and
+`browser`, and says what a view of them should write, and who asked which step.
 
-A history is written as `lcrqdb view FILE.. --history` writes it, with the replies and maybe the trace
-of a run of its lines, or as its calls alone. Who asked which step is found by other means than
-`askers.py` finds it: by the steps after each line, as on a page of the run; and in half of the
-histories by the step's actor, which one viewer alone moves.
+The scripts have lines that are refused, and some that are no commands. The viewers share a fresh machine, or the
+session of a trace. The calls of a history are answered by one run of them as a script. A history is
+written as `lcrqdb view FILE.. --history` writes it, or as its calls alone. Who asked which step is found by
+other means than `askers.py` finds it: by the steps after each line, as on a page of the run; and in half of
+the histories by the step's actor, which one viewer alone moves. Only Python's standard library is used.
 """
 
 import argparse
-import json
+import dataclasses
+import itertools
 import random
-from collections.abc import Iterator
+from collections.abc import Collection, Iterator, Sequence
 from dataclasses import dataclass
 from pathlib import Path
 
 from lcrq_tools import history, program
+from lcrq_tools.checks import random_scripts, replies
+from lcrq_tools.checks.random_scripts import Forms, drawing_words, text_of, written_script
+from lcrq_tools.checks.replies import TRACE
+from lcrq_tools.faults import Fault
+from lcrq_tools.history import History
+from lcrq_tools.options import RINGS
 from lcrq_tools.page import run_rows, run_states
 from lcrq_tools.records import Event, is_made
 
-Call = tuple[int, str]  # a viewer, and the line that it asked
+MOST_ACTORS = 4
+MOST_BYTES = 256  # of a line
 
-ACTORS = 4
-# How often a history has a line, without its actor.
-WEIGHTS = {"go": 32, "enq": 6, "deq": 6, "aenq": 2, "adeq": 2, "starve": 4, "undo": 2, "undo K": 4, "roll K": 4}
-WEIGHTS |= {"redo": 4, "back": 2, "forward": 2, "mark": 2, "goto": 4, "drop": 1, "len": 1, "show qhead": 1}
-NAMES = ("a", "b", "c")  # of bookmarks
+# Lines that are no commands, each with its refusal.
+FAULTY = dict.fromkeys(("", "hello", "go1"), "refused 22 BadLine") | {"mark A": "refused 17 BadName"}
+FAULTY |= {"x" * (MOST_BYTES + 1): "refused 23 LineTooLong"}
+QUERIES = ("show qtail", "step 1", "origin 9", "writer qhead", "actor 1", "marks", "markat 1", "same a b")
+CALLS: Forms = {
+    **random_scripts.MARKED, "go {actor}": 32, "undo {step}": 4, "roll {step}": 4, "redo": 4, "goto {name}": 4,
+    "drop {name}": 1, "len": 1, "show qhead": 1,
+}
+LINES: Forms = {**CALLS, "mark {name}": 4, **dict.fromkeys([*QUERIES, *FAULTY], 1)}
+
+HISTORY = "--history"
+ANY = ""  # stands for a line that may be any one: no reply is empty
 OVER_A_TRACE, IS_LEFT_OUT = 0.3, 0.8  # how likely a history has a start with steps, and a refused line is left out
+FORMS = ([HISTORY], [HISTORY, TRACE], None)  # options of a view that writes it; the last one has the calls alone
+
+
+# ---- Scripts -------------------------------------------------------------------------------------
+
+
+def refusal_of(line: str) -> str:
+    """The refusal of a line of a script, if it is no command; else nothing."""
+    return "refused 23 LineTooLong" if len(line) > MOST_BYTES else FAULTY.get(line, "")
+
+
+def calls_of(script: Sequence[str]) -> list[str]:
+    """The lines of a script that are commands."""
+    return [line for line in script if not refusal_of(line)]
+
+
+# ---- Runs ----------------------------------------------------------------------------------------
 
 
 @dataclass(frozen=True)
-class RandomHistory:
-    """A history that was made at random, or one in its form."""
+class Machine:
+    """What viewers share: a fresh machine of a program, or the session of a trace."""
 
-    viewers: int
-    calls: list[Call]
-    is_apart: bool  # whether each actor is moved by one viewer alone
-    words: list[str]  # a command line that draws it
+    built: str
+    actors: int
+    ring: int
+    start: str = ""  # the file of the trace
 
+    def options(self, start: str = "--start") -> list[str]:
+        """The options that choose it. A drawing has another name for that of the trace."""
+        return [start, self.start] if self.start else ["--actors", str(self.actors), "--ring", str(self.ring)]
 
-def line_of(chance: random.Random, word: str, actor: int, live: int) -> str:
-    """A line that begins with this word, where so many steps are live."""
-    if word in ("mark", "goto", "drop"):
-        return f"{word} {chance.choice(NAMES)}"
-    if word in ("back", "forward"):
-        return f"{word} {chance.randint(0, 3)}"
-    if word.endswith(" K"):
-        return word.replace("K", str(chance.randint(1, live + 1)))
-    more = {"go": "", "deq": "", "adeq": "", "starve": chance.choice([" yes", " no"])}
-    more |= {"enq": f" {chance.randint(0, 99)}", "aenq": f" {chance.randint(0, 9)}"}
-    return f"{word} {actor}{more[word]}" if word in more else word
+    def replay(self) -> list[str]:
+        """The words that answer one script on standard input."""
+        return [self.built, "load", self.start] if self.start else [self.built, "run", "-", *self.options()]
 
 
-def lines_of(chance: random.Random, words: list[str], count: int) -> Iterator[str]:
+def fresh_machine(chance: random.Random, built: str) -> Machine:
+    """A machine on which nothing has happened."""
+    return Machine(built, chance.randint(1, MOST_ACTORS), chance.choice(RINGS))
+
+
+def continued(machine: Machine, folder: Path, script: Sequence[str]) -> Machine:
+    """A machine after a run of this script, whose trace is written into a folder."""
+    trace = replies.written([*machine.replay(), TRACE], text_of(script).encode("ascii"))[-1]
+    return dataclasses.replace(machine, start=written_script(folder / "start.trace", [trace]))
+
+
+def answers_to(replay: list[str], asked: History) -> list[str]:
+    """The replies of one run to the calls of a history, and last its trace."""
+    answers = replies.written([*replay, TRACE], asked.script())
+    if len(answers) != len(asked.lines) + 1:
+        raise Fault(f"a run of {len(asked.lines)} calls writes {len(answers)} lines, its trace the last one")
+    return answers
+
+
+# ---- What a view should write --------------------------------------------------------------------
+
+
+def own(viewer: int, asked: History, lines: Sequence[str]) -> list[str]:
+    """Of lines that belong to the calls of a history, those of one viewer's calls."""
+    return [line for asker, line in zip(asked.viewers, lines) if asker == viewer]
+
+
+def replies_to(viewer: int, script: Sequence[str], asked: History, answers: Sequence[str], mark: str = "") -> list[str]:
+    """The replies to a viewer's script, if the calls of this history get these answers. A refusal has a mark."""
+    left = iter(own(viewer, asked, answers))
+    return [f"{mark}{refusal}" if refusal else next(left, "no call") for refusal in map(refusal_of, script)]
+
+
+def call_lines(asked: History) -> list[str]:
+    """The calls of a history as its text has them."""
+    return [f"{viewer} {line}" for viewer, line in zip(asked.viewers, asked.lines)]
+
+
+def view_of(
+    scripts: Sequence[Sequence[str]], asked: History, answers: Sequence[str], options: Collection[str]
+) -> list[str]:
+    """The lines that a view of these scripts writes with these options, if the calls of this history get
+    these answers, of which the trace is the last one."""
+    lines = []
+    for viewer, script in enumerate(scripts, 1):
+        lines += [f"viewer {viewer}", *replies_to(viewer, script, asked, answers)]
+    lines.append(f"history {len(asked.lines)}")
+    lines += call_lines(asked) if HISTORY in options else []
+    return [*lines, answers[-1]] if TRACE in options else lines
+
+
+# ---- Comparisons ---------------------------------------------------------------------------------
+
+
+def difference(what: str, got: Sequence[str], wanted: Sequence[str]) -> str:
+    """Where lines first differ from what is wanted, or nothing."""
+    pairs = enumerate(itertools.zip_longest(got, wanted, fillvalue="nothing more"), 1)
+    wrong = ((number, line, other) for number, (line, other) in pairs if other not in (ANY, line))
+    faults = (f"{what} {number} is `{line}`, wanted `{other}`" for number, line, other in wrong)
+    return next(faults, "") or ("" if len(got) == len(wanted) else f"{what}s are missing")
+
+
+def calls_fault(viewer: int, script: Sequence[str], asked: History, is_cut: bool = False) -> str:
+    """What is wrong with the calls of a viewer in a history, or nothing. If its client left, the last ones
+    may be missing."""
+    calls, wanted = own(viewer, asked, asked.lines), calls_of(script)
+    return difference(f"viewer {viewer}: call", calls, wanted[:len(calls)] if is_cut else wanted)
+
+
+# ---- Runs at random ------------------------------------------------------------------------------
+
+
+@dataclass(frozen=True)
+class Run:
+    """A run of a script, or of a history: one that was made at random, or a stored one."""
+
+    words: list[str]  # a command line that draws it, if it was made at random
+    calls: History = History((), ())  # none of a script
+    owners: int = 0  # how many viewers have actors that they alone move; 0 where all viewers move all actors
+
+
+def short_run(chance: random.Random, folder: Path, built: str, forms: Forms, count: int) -> Run:
+    """A run of calls, steps, choices and what else these forms have, some of which are refused."""
+    script = random_scripts.random_script(chance, forms, 3, count)
+    return Run(drawing_words(folder, script, built, "--ring", str(chance.choice(RINGS))))
+
+
+def crowded_run(chance: random.Random, folder: Path, built: str) -> Run:
+    """A longer run of more actors and segments."""
+    return Run(drawing_words(folder, random_scripts.crowded_script(chance), built, "--ring", "2", "--actors", "6"))
+
+
+# ---- Histories ------------------------------------------------------------------------------------
+
+
+def lines_of(chance: random.Random, words: list[str], forms: Forms, count: int) -> Iterator[str]:
     """Lines at random, most of which a run that these words start doesn't refuse."""
     live = 0
     with program.Driven(words) as driven:
         while count:
-            word = chance.choices([*WEIGHTS], [*WEIGHTS.values()])[0]
-            line = line_of(chance, word, chance.randint(1, ACTORS), live)
+            line = random_scripts.line_of(chance, forms, MOST_ACTORS, live)
             reply = driven.ask(line)[0]
             if reply.startswith(("ok ", "at ")):
                 live = int(reply.split(" ")[1])
@@ -70,79 +193,58 @@ def owner_of(line: str, viewers: int) -> int:
     return (Event.read(line).actor - 1) % viewers + 1
 
 
-def asked_of(chance: random.Random, folder: Path, count: int, given: argparse.Namespace) -> RandomHistory:
-    """A history of two to four viewers and so many lines, which is written."""
-    viewers, is_apart = chance.randint(2, ACTORS), chance.random() < 0.5
-    run, options = world_of(chance, folder, given)
-    calls = []
-    for line in lines_of(chance, run, count):
-        is_owned = is_apart and program.MAKES_A_STEP.match(line.encode())
-        calls.append((owner_of(line, viewers) if is_owned else chance.randint(1, viewers), line))
-    file = folder / "random.history"
-    form = chance.choice(["whole", "traced", "alone"])
-    file.write_text(text_of(run, viewers, calls, form), encoding="ascii")
-    words = ["--history", str(file), *options, "--refused", "--program", given.program]
-    return RandomHistory(viewers, calls, is_apart, words)
-
-
-def stored(name: str) -> RandomHistory:
-    """A stored history in the form of one at random, with no command line."""
-    asked = history.read(name)
-    return RandomHistory(max(asked.viewers), [*zip(asked.viewers, asked.lines)], False, [])
-
-
-def world_of(chance: random.Random, folder: Path, given: argparse.Namespace) -> tuple[list[str], list[str]]:
-    """The words that start a run, and those of a drawing: over a fresh world, or over a trace with steps."""
-    options = ["--ring", chance.choice(["2", "4", "8"])]
-    fresh = [given.program, "run", *options, "-"]
+def random_machine(chance: random.Random, folder: Path, built: str) -> Machine:
+    """A fresh machine, or one after a run of a few lines without bookmarks."""
+    machine = Machine(built, MOST_ACTORS, chance.choice(RINGS))
     if chance.random() > OVER_A_TRACE:
-        return fresh, options
-    start = folder / "start.trace"
-    before = [(1, line) for line in lines_of(chance, fresh, 12)]
-    trace = json.loads(replies_to(fresh, before)[-1])
-    start.write_text(json.dumps(trace | {"marks": []}), encoding="ascii")
-    return [given.program, "load", "--", str(start)], ["--trace", str(start)]
+        return machine
+    return continued(machine, folder, [*lines_of(chance, machine.replay(), random_scripts.MOVED, 12)])
 
 
-# ---- As the program writes it ---------------------------------------------------------------------
+def viewed_run(chance: random.Random, folder: Path, built: str, count: int) -> Run:
+    """A run of a history of two to four viewers and so many lines, which is written."""
+    viewers = chance.randint(2, MOST_ACTORS)
+    owners = chance.choice([viewers, 0])
+    machine = random_machine(chance, folder, built)
+    lines = tuple(lines_of(chance, machine.replay(), CALLS, count))
+    owned = [owners and program.MAKES_A_STEP.match(line.encode()) for line in lines]
+    callers = (owner_of(line, owners) if found else chance.randint(1, viewers) for line, found in zip(lines, owned))
+    asked = History(tuple(callers), lines)
+    file = written_script(folder / "random.history", written_as(machine, viewers, asked, chance.choice(FORMS)))
+    words = ["--history", file, *machine.options("--trace"), "--refused", "--program", built]
+    return Run(words, asked, owners)
 
 
-def replies_to(words: list[str], calls: list[Call]) -> list[str]:
-    """The replies of a run to the lines of calls, and last its trace."""
-    built, command, *others = words
-    return program.replies_to([built, command, "--trace", *others], program.script_of(line for _, line in calls))
+def written_as(machine: Machine, viewers: int, asked: History, options: list[str] | None) -> list[str]:
+    """A history as a view with these options writes it; its calls alone, where there are none."""
+    if options is None:
+        return call_lines(asked)
+    scripts = [own(viewer, asked, asked.lines) for viewer in range(1, viewers + 1)]
+    return view_of(scripts, asked, answers_to(machine.replay(), asked), options)
 
 
-def text_of(words: list[str], viewers: int, calls: list[Call], form: str) -> str:
-    """The text of a history: `whole`, `traced` with the session's trace behind it, or the calls `alone`.
-    The words start a run of its lines."""
-    lines = [f"{viewer} {line}" for viewer, line in calls]
-    if form == "alone":
-        return "".join(f"{line}\n" for line in lines)
-    *replies, trace = replies_to(words, calls)
-    parts = []
-    for viewer in range(1, viewers + 1):
-        parts += [f"viewer {viewer}", *(reply for reply, call in zip(replies, calls) if call[0] == viewer)]
-    last = [trace] if form == "traced" else []
-    return "".join(f"{line}\n" for line in [*parts, f"history {len(calls)}", *lines, *last])
+def stored(arguments: argparse.Namespace) -> Run:
+    """The run of a stored script or history."""
+    return Run([], history.read(arguments.history)) if arguments.history else Run([])
 
 
 # ---- Who asked which step -------------------------------------------------------------------------
 
 
-def wanted_of(arguments: argparse.Namespace, asked: RandomHistory, line: int) -> list[int]:
+def viewers_after(line: int, arguments: argparse.Namespace, run: Run) -> list[int]:
     """The viewers of the live and then of the undone steps after so many lines; 0 of a step of the start."""
-    run = run_states.Asked(argparse.Namespace(**vars(arguments) | {"lines": line}), 0)
-    states = run_states.lengths_of(run)
-    run_states.ask_steps(run, states)
+    asked = run_states.Asked(argparse.Namespace(**vars(arguments) | {"lines": line}), 0)
+    states = run_states.lengths_of(asked)
+    run_states.ask_steps(asked, states)
     made, last = run_rows.Rows(states).made, states[-1]
-    viewers = [viewer_of(states[made[row][0]], asked.calls) for row in last.rows]
-    if not asked.is_apart:
+    first = [states[made[row][0]] for row in last.rows]  # the state where each step is first
+    viewers = [run.calls.viewers[state.line - 1] if is_made(state.reply) else 0 for state in first]
+    if not run.owners:
         return viewers
     lines = [str(step.event) for step in last.steps]
-    return [owner_of(line, asked.viewers) if viewer else 0 for line, viewer in zip(lines, viewers)]
+    return [owner_of(line, run.owners) if viewer else 0 for line, viewer in zip(lines, viewers)]
 
 
-def viewer_of(it: run_states.State, calls: list[Call]) -> int:
-    """The viewer of a step that is first there after this line; 0 if the line doesn't make it."""
-    return calls[it.line - 1][0] if is_made(it.reply) else 0
+def viewers_of(arguments: argparse.Namespace, run: Run) -> list[int]:
+    """The viewers of all steps of a history; nobody, if a script is run."""
+    return viewers_after(len(run.calls.lines), arguments, run) if run.calls.lines else []

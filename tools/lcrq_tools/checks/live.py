@@ -17,8 +17,7 @@ right if
 - standard error names the viewers' faults in the order of the viewers, and the status is 1 if there
   are any.
 
-So the numbers in all replies together are 1 to H without a gap, and those of a viewer increase. Each
-row prints one line for each build of the program; the status is 1 if one of them is wrong. What
+Each row prints one line for each build of the program; the status is 1 if one of them is wrong. What
 doesn't come in a minute is wrong. Linux and Python's standard library are all that is needed.
 """
 
@@ -26,15 +25,16 @@ import functools
 import os
 import random
 import tempfile
-from collections.abc import Callable, Iterator, Sequence
+from collections.abc import Callable, Iterator, Mapping, Sequence
+from enum import Enum, auto
 from pathlib import Path
 from typing import NamedTuple
 
 from lcrq_tools import history, program
-from lcrq_tools.checks.viewer_scripts import (
-    HISTORY, TRACE, Machine,
-    answers_to, calls_of, continued, difference, fresh_machine, own, random_script, refusal_of, written, written_script,
-)
+from lcrq_tools.checks import histories, replies
+from lcrq_tools.checks.random_scripts import random_script, written_script
+from lcrq_tools.checks.replies import TRACE
+from lcrq_tools.checks.histories import HISTORY, Machine, difference
 from lcrq_tools.clients import Client, Dialogue, Live, ask_until_full, finish, piped, replies_of, serve, talk
 from lcrq_tools.faults import Fault
 from lcrq_tools.history import History
@@ -59,27 +59,18 @@ exec 3<&-; printf %s "$line" >&4; echo; exec sleep 600"""
 # ---- What is wrong -------------------------------------------------------------------------------
 
 
-def wanted_replies(viewer: int, lines: Sequence[str], asked: History, answers: Sequence[str]) -> list[str]:
-    """The replies to the lines of a viewer, if the calls of this history get these answers."""
-    calls = enumerate(zip(asked.viewers, answers), 1)
-    left = (f"{number} {answer}" for number, (it, answer) in calls if it == viewer)
-    refusals = map(refusal_of, lines)
-    return [f"{NO_CALL} {refusal}" if refusal else next(left, "no call") for refusal in refusals]
-
-
-def dialogue_fault(viewer: int, it: Dialogue, asked: History, answers: Sequence[str]) -> str:
+def dialogue_fault(viewer: int, dialogue: Dialogue, asked: History, answers: Sequence[str]) -> str:
     """What is wrong with the calls of a viewer in this history, or with its replies, or nothing."""
-    calls, wanted = own(viewer, asked, asked.lines), calls_of(it.lines)
-    replies = wanted_replies(viewer, it.lines, asked, answers)
-    if it.is_cut:
-        wanted, replies = wanted[:len(calls)], replies[:len(it.replies)]
-    fault = difference(f"viewer {viewer}: call", calls, wanted)
-    return fault or difference(f"viewer {viewer}: reply", it.replies, replies)
+    numbered = [f"{number} {answer}" for number, answer in enumerate(answers, 1)]
+    wanted = histories.replies_to(viewer, dialogue.lines, asked, numbered, f"{NO_CALL} ")
+    wanted = wanted[:len(dialogue.replies)] if dialogue.is_cut else wanted
+    fault = histories.calls_fault(viewer, dialogue.lines, asked, dialogue.is_cut)
+    return fault or difference(f"viewer {viewer}: reply", dialogue.replies, wanted)
 
 
 def order_fault(dialogues: Sequence[Dialogue]) -> str:
     """Which call stands before one that was answered before it was asked, or nothing."""
-    rows = (row for it in dialogues for row in zip(it.replies, it.begun, it.came))
+    rows = (row for dialogue in dialogues for row in zip(dialogue.replies, dialogue.begun, dialogue.came))
     calls = ((int(reply.split(" ")[0]), begun, came) for reply, begun, came in rows if reply[0] != NO_CALL)
     last, latest = 0, 0.0  # of the calls so far, the one that was asked last, and when that was
     for number, begun, came in sorted(calls):
@@ -101,15 +92,29 @@ def faults_of(text: str, dialogues: Sequence[Dialogue], replay: list[str]) -> It
     words replay a history. Each fault is a text, which may be empty."""
     asked, lines = history.history_of("the output", text), program.lines_of(text)
     yield difference("line", lines[:1], [f"history {len(asked.lines)}"])
-    *replies, trace = answers_to(replay, asked)
+    *answers, trace = histories.answers_to(replay, asked)
     strangers = [viewer for viewer in asked.viewers if viewer > len(dialogues)]
     yield f"a call is of viewer {strangers[0]}, and there are {len(dialogues)}" if strangers else ""
-    yield from (dialogue_fault(viewer, it, asked, replies) for viewer, it in enumerate(dialogues, 1))
+    yield from (dialogue_fault(viewer, dialogue, asked, answers) for viewer, dialogue in enumerate(dialogues, 1))
     yield order_fault(dialogues)
     yield trace_fault(lines[-1], trace) or ("" if text.endswith("\n") else "the output lacks its last line feed")
 
 
 # ---- A scene -------------------------------------------------------------------------------------
+
+
+class Kind(Enum):
+    """What is in the place of a viewer's two named pipes."""
+
+    PLAIN = auto()  # a plain file; the program makes that of its replies
+    APPENDED = auto()  # the same, and a file that has a reply
+    NO_FILE = auto()
+    FOLDER = auto()
+    FOLDER_FOR_REPLIES = auto()  # behind a plain file: the viewer asks nothing
+
+
+# The faults of a viewer by what it finds.
+REFUSED = {Kind.NO_FILE: READ, Kind.FOLDER: READ, Kind.FOLDER_FOR_REPLIES: WRITE}
 
 
 def plain_dialogue(file: Path, script: Sequence[str], kept: str) -> Dialogue:
@@ -122,42 +127,43 @@ def plain_dialogue(file: Path, script: Sequence[str], kept: str) -> Dialogue:
 
 
 class Scene:
-    """Viewers with random scripts, each at two named pipes until something else is put there."""
+    """Viewers with random scripts, each at two named pipes where it has no files of another kind."""
 
     live: Live  # once the program has started
 
-    def __init__(self, folder: Path, machine: Machine, scripts: Sequence[list[str]]) -> None:
+    def __init__(
+        self, folder: Path, machine: Machine, scripts: Sequence[list[str]], kinds: Mapping[int, Kind]
+    ) -> None:
         self.folder, self.machine, self.scripts = folder, machine, scripts
         self.files = [folder / f"viewer-{viewer}" for viewer in range(1, len(scripts) + 1)]
-        self.at_pipes = [*range(1, len(scripts) + 1)]
-        self.refused: dict[int, str] = {}  # which viewers have a fault
-        self.told: dict[int, Callable[[], Dialogue]] = {}  # what gives the dialogues at the end
-        for it in self.files:
-            os.mkfifo(it)
-            os.mkfifo(replies_of(it))
+        self.at_pipes = [viewer for viewer in range(1, len(scripts) + 1) if viewer not in kinds]
+        self.refused = {viewer: REFUSED[kind] for viewer, kind in kinds.items() if kind in REFUSED}
+        self.dialogues: dict[int, Callable[[], Dialogue]] = {}  # what gives them at the end
+        for viewer in self.at_pipes:
+            os.mkfifo(self.files[viewer - 1])
+            os.mkfifo(replies_of(self.files[viewer - 1]))
+        for viewer, kind in kinds.items():
+            self.lay_out(viewer, kind)
 
-    def without_pipes(self, viewer: int) -> Path:
-        """Removes the pipes of a viewer; returns the name of its file."""
-        file = self.files[viewer - 1]
-        self.at_pipes.remove(viewer)
-        file.unlink()
-        replies_of(file).unlink()
-        return file
-
-    def put_plain(self, viewer: int, kept: str = "") -> Path:
-        """Puts a viewer's script into a plain file; the program makes that of its replies, or appends to
-        this text. Returns the name of its file."""
-        file, script = self.without_pipes(viewer), self.scripts[viewer - 1]
-        written_script(file, script)
-        if kept:
-            replies_of(file).write_text(kept, encoding="ascii")
-        self.told[viewer] = functools.partial(plain_dialogue, file, script, kept)
-        return file
+    def lay_out(self, viewer: int, kind: Kind) -> None:
+        """Makes the files of a viewer that is not at pipes."""
+        file, script = self.files[viewer - 1], self.scripts[viewer - 1]
+        if kind is Kind.FOLDER:
+            file.mkdir()
+        elif kind is not Kind.NO_FILE:
+            written_script(file, script)
+        if kind is Kind.FOLDER_FOR_REPLIES:
+            replies_of(file).mkdir()
+        if kind is Kind.APPENDED:
+            replies_of(file).write_text(KEPT, encoding="ascii")
+        if kind not in REFUSED:
+            kept = KEPT if kind is Kind.APPENDED else ""
+            self.dialogues[viewer] = functools.partial(plain_dialogue, file, script, kept)
 
     def words(self) -> list[str]:
         """The words that view all files."""
         files = map(str, self.files)
-        return [self.machine.built, "view", "--live", *files, *self.machine.options, HISTORY, TRACE]
+        return [self.machine.built, "view", "--live", *files, *self.machine.options(), HISTORY, TRACE]
 
     def clients(self, viewers: Sequence[int] = ()) -> list[Client]:
         """The clients of these viewers, or of all that are at pipes."""
@@ -166,7 +172,7 @@ class Scene:
     def client(self, viewer: int) -> Client:
         """The client of a viewer."""
         client = self.live.client(f"viewer {viewer}", self.files[viewer - 1], self.scripts[viewer - 1])
-        self.told[viewer] = client.dialogue
+        self.dialogues[viewer] = client.dialogue
         return client
 
     def fault(self) -> str:
@@ -177,66 +183,14 @@ class Scene:
         if (ended.status, ended.errors) != wanted:
             return f"it ends with {(ended.status, ended.errors)!r}, wanted {wanted!r}"
         # a viewer whose file or replies can't be opened has an empty dialogue
-        dialogues = [self.told.get(viewer, Dialogue)() for viewer in range(1, len(self.scripts) + 1)]
+        dialogues = [self.dialogues.get(viewer, Dialogue)() for viewer in range(1, len(self.scripts) + 1)]
         text = ended.output.decode("latin-1")
-        fault = next(filter(None, faults_of(text, dialogues, self.machine.replay)), "")
-        return fault or self.loading_fault(program.lines_of(text)[-1])
-
-    def loading_fault(self, trace: str) -> str:
-        """What is wrong with what `load` writes of a trace, or nothing."""
+        if fault := next(filter(None, faults_of(text, dialogues, self.machine.replay())), ""):
+            return fault
+        trace = program.lines_of(text)[-1]
         name = written_script(self.folder / "left.trace", [trace])
-        fault = trace_fault("\n".join(written([self.machine.built, "load", name, TRACE])), trace)
+        fault = trace_fault("\n".join(replies.written([self.machine.built, "load", name, TRACE])), trace)
         return f"loaded, {fault}" if fault else ""
-
-
-# ---- Viewers that are not at pipes ---------------------------------------------------------------
-
-
-def put_nothing(_: Scene) -> None:
-    """Leaves all viewers at their pipes."""
-
-
-def put_plain_files(scene: Scene) -> None:
-    """Puts all scripts into plain files."""
-    for viewer in [*scene.at_pipes]:
-        scene.put_plain(viewer)
-
-
-def put_no_file(scene: Scene, viewer: int = 1) -> None:
-    """Removes a viewer's file."""
-    scene.without_pipes(viewer)
-    scene.refused[viewer] = READ
-
-
-def put_folder(scene: Scene, viewer: int = 1) -> None:
-    """Puts a folder in place of a viewer's file."""
-    scene.without_pipes(viewer).mkdir()
-    scene.refused[viewer] = READ
-
-
-def put_folder_for_replies(scene: Scene, viewer: int = 1) -> None:
-    """Puts a folder in place of a viewer's replies: it asks nothing."""
-    file = scene.without_pipes(viewer)
-    written_script(file, scene.scripts[viewer - 1])
-    replies_of(file).mkdir()
-    scene.refused[viewer] = WRITE
-
-
-def put_replies(scene: Scene) -> None:
-    """Puts a viewer's script into a plain file, and a reply into the file of its replies."""
-    scene.put_plain(1, KEPT)
-
-
-def put_three_faults(scene: Scene) -> None:
-    """Puts a fault into the places of three viewers, the last one first."""
-    put_folder_for_replies(scene, 5)
-    put_no_file(scene, 4)
-    put_folder(scene, 2)
-
-
-def put_long_line(scene: Scene) -> None:
-    """Puts a line into a script that is far too long."""
-    scene.scripts[0][HALF] = LONG
 
 
 # ---- What the clients do -------------------------------------------------------------------------
@@ -245,6 +199,12 @@ def put_long_line(scene: Scene) -> None:
 def all_ask(scene: Scene) -> None:
     """All clients ask their whole scripts."""
     finish(scene.clients())
+
+
+def ask_long_line(scene: Scene) -> None:
+    """All clients ask their whole scripts, one with a line that is far too long."""
+    scene.scripts[0][HALF] = LONG
+    all_ask(scene)
 
 
 def break_off(scene: Scene) -> None:
@@ -264,32 +224,26 @@ def kill(scene: Scene) -> None:
     with piped(words, "viewer 1", scene.scripts[0]) as (child, first):
         talk([first, *others], HALF)
         first.break_off(BROKEN)
-        serve([first], lambda it: it.is_answered())
+        serve([first], Client.is_answered)
         child.kill()
         child.wait()
         first.replies.pop()  # by which it said that it had written the half
         first.stop_reading()
-        scene.told[1] = first.dialogue
+        scene.dialogues[1] = first.dialogue
     finish(others)
 
 
-def stop_reading(scene: Scene) -> None:
+def stop_reading(scene: Scene, leaves: bool = False) -> None:
     """The first client asks on without reading, until its viewer is stopped. When the others have ended,
-    it reads on."""
+    it reads on, or leaves."""
     first, *others = scene.clients()
     ask_until_full(first)
     finish(others)
-    finish([first])
-
-
-def stop_reading_and_leave(scene: Scene) -> None:
-    """The first client asks on without reading, until its viewer is stopped. When the others have ended,
-    it leaves."""
-    scene.refused[1] = WRITE
-    first, *others = scene.clients()
-    ask_until_full(first)
-    finish(others)
-    first.leave()
+    if leaves:
+        scene.refused[1] = WRITE
+        first.leave()
+    else:
+        finish([first])
 
 
 def close_replies(scene: Scene) -> None:
@@ -313,48 +267,51 @@ def come_late(scene: Scene) -> None:
 
 
 class Case(NamedTuple):
-    """What clients do at once, and what is there before."""
+    """What clients do at once, and which viewers are not at pipes."""
 
     name: str
     act: Callable[[Scene], None] = all_ask
-    put: Callable[[Scene], None] = put_nothing
+    kinds: Mapping[int, Kind] = {}  # of the viewers that are not at pipes
     viewers: int = 4
     lines: int = 2 * HALF  # of each
     is_continued: bool = False  # whether the viewers go on with the session of a trace
 
 
+STOP_AND_LEAVE = functools.partial(stop_reading, leaves=True)
+FAULTY = {5: Kind.FOLDER_FOR_REPLIES, 4: Kind.NO_FILE, 2: Kind.FOLDER}  # the last one first
+
 CASES = [
     Case("4 clients at pipes", lines=500),
     Case("4 clients at pipes once more", lines=500),
     Case("4 clients at pipes, over a trace", lines=500, is_continued=True),
-    Case("4 viewers of plain files", put=put_plain_files, lines=500),
+    Case("4 viewers of plain files", kinds=dict.fromkeys(range(1, 5), Kind.PLAIN), lines=500),
     Case("64 clients", viewers=64, lines=20),
     Case("a client leaves in the middle of a line", break_off),
     Case("a client is killed in the middle of a line", kill),
     Case("a client stops reading until the others have ended", stop_reading, lines=500),
-    Case("a client stops reading, and leaves when the others have ended", stop_reading_and_leave, lines=500),
+    Case("a client stops reading, and leaves when the others have ended", STOP_AND_LEAVE, lines=500),
     Case("a client closes the pipe of its replies", close_replies),
     Case("a client comes when the others have ended", come_late),
-    Case("a client asks a line of 100,000 bytes", put=put_long_line),
-    Case("a file isn't there", put=put_no_file),
-    Case("a file is a folder", put=put_folder),
-    Case("a file of replies is a folder", put=put_folder_for_replies),
-    Case("a file of replies had some before", put=put_replies),
-    Case("viewers 1, 2, 4 and 5 of 5 have faults", close_replies, put_three_faults, viewers=5),
+    Case("a client asks a line of 100,000 bytes", ask_long_line),
+    Case("a file isn't there", kinds={1: Kind.NO_FILE}),
+    Case("a file is a folder", kinds={1: Kind.FOLDER}),
+    Case("a file of replies is a folder", kinds={1: Kind.FOLDER_FOR_REPLIES}),
+    Case("a file of replies had some before", kinds={1: Kind.APPENDED}),
+    Case("viewers 1, 2, 4 and 5 of 5 have faults", close_replies, FAULTY, viewers=5),
 ]
 
 
 def case_fault(case: Case, built: str) -> str:
     """What is wrong with a build in a case, or nothing."""
     chance = random.Random(case.name)
-    machine = fresh_machine(chance, built)
+    machine = histories.fresh_machine(chance, built)
     with tempfile.TemporaryDirectory() as name:
         folder = Path(name)
+        script_of = functools.partial(random_script, chance, histories.LINES, machine.actors, case.lines)
         if case.is_continued:
-            machine = continued(machine, folder, random_script(chance, machine.actors, case.lines))
-        scripts = [random_script(chance, machine.actors, case.lines) for _ in range(case.viewers)]
-        scene = Scene(folder, machine, scripts)
-        case.put(scene)
+            machine = histories.continued(machine, folder, script_of())
+        scripts = [script_of() for _ in range(case.viewers)]
+        scene = Scene(folder, machine, scripts, case.kinds)
         with Live(scene.words()) as scene.live:
             try:
                 case.act(scene)
@@ -375,7 +332,7 @@ def shared_fault(names: Sequence[str], built: str) -> str:
 
 
 ROWS: program.Rows = [
-    *((it.name, functools.partial(case_fault, it)) for it in CASES),
+    *((case.name, functools.partial(case_fault, case)) for case in CASES),
     ("a file is named twice", functools.partial(shared_fault, ["a", "b", "a"])),
     ("a file is that of another's replies", functools.partial(shared_fault, ["a.replies", "b", "a"])),
 ]

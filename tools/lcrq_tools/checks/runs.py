@@ -10,14 +10,13 @@ import argparse
 import itertools
 import json
 import re
-import tempfile
 from collections.abc import Sequence
 from pathlib import Path
 from xml.etree import ElementTree
 from xml.etree.ElementTree import Element
 
 from lcrq_tools import dependence
-from lcrq_tools.checks import moments
+from lcrq_tools.checks import moments, replies
 from lcrq_tools.draw import figure, picture
 from lcrq_tools.records import Step
 
@@ -140,7 +139,7 @@ class Run:
         trace = json.loads(Path(arguments.trace).read_text(encoding="utf-8")) if arguments.trace else {}
         self.arguments, self.session, self.live, self.records = arguments, session, session.live, records
         self.ring = trace.get("ring") or int(arguments.ring or 4)
-        self.start: moments.Trace = trace.get("start", {})  # that of the trace; nothing over a fresh world
+        self.start: replies.Trace = trace.get("start", {})  # that of the trace; nothing over a fresh world
         self.steps = [dependence.step_of(record, self.ring) for record in records]
         self.first, self.last = arguments.first or 1, arguments.last or len(records)  # that may be drawn
         # the actors and the places that are chosen
@@ -376,15 +375,12 @@ def segments_of(run: Run) -> set[str]:
 def chain_of(run: Run) -> tuple[list[str], set[str]]:
     """The segments in the order of their links from the root on, and all that are linked, when
     the steps are loaded as a trace."""
-    trace = moments.trace_of(run.session)
+    trace = replies.trace_of(run.session)
     trace |= {"events": trace["events"] + trace["undone"], "undone": []}
     names = sorted(segments_of(run))
-    with tempfile.TemporaryDirectory() as folder:
-        loaded = moments.Loaded(run.arguments.program, Path(folder), trace)
-        nexts = dict(zip(names, (reply[3:] for reply in loaded.ask([f"show next {name}" for name in names]))))
-    chain = ["0.0"]
-    while nexts[chain[-1]] != "none":
-        chain.append(nexts[chain[-1]])
+    with replies.loaded(run.arguments.program, trace) as ask:
+        nexts = {name: reply[3:] for name, reply in zip(names, ask([f"show next {name}" for name in names]))}
+    chain = replies.chain_of(nexts)
     return chain, {*chain, *nexts.values()}
 
 

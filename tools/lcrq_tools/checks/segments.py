@@ -33,10 +33,10 @@ Checks = Iterator[tuple[str, Lines]]
 # ---- What the program has to answer --------------------------------------------------------------
 
 
-def record(actor: int, at: int) -> str:
+def record(actor: int, before: int) -> str:
     """What `step K` says of the step after this many others of the actor, without its number: its
     rounds are Q2, Q3, Q4, Q7 and Q8."""
-    drawn, part = divmod(at, 5)
+    drawn, part = divmod(before, 5)
     cell = f"{actor}.0 {drawn % RING}"
     rows = [f"head {actor}.0; wrote; {drawn}", f"value {cell}; read; none", f"index {cell}; read; 1 {drawn}"]
     rows += [f"cell {cell}; wrote index; won", f"tail {actor}.0; read; open {FAR}"]
@@ -45,7 +45,7 @@ def record(actor: int, at: int) -> str:
 
 def in_turn() -> list[Step]:
     """The steps in turn."""
-    return [(actor, at) for at in range(EACH) for actor in range(1, ACTORS + 1)]
+    return [(actor, before) for before in range(EACH) for actor in range(1, ACTORS + 1)]
 
 
 def one_by_one() -> list[Step]:
@@ -91,7 +91,7 @@ def comparing() -> Checks:
     other = [("goto turn", f"at {STEPS} 0"), ("undo", f"at {STEPS - 1} 1"), ("go 1", f"ok {STEPS}")]
     yield "a last step by another actor", [*other, ("mark other", f"marked {STEPS}")]
     pairs = (("turn", "other"), ("other", "turn"), ("single", "other"), ("other", "single"))
-    yield "`same` of that and each order", [(f"same {one} {two}", "same no") for one, two in pairs]
+    yield "`same` of that and each order", [(f"same {mark} {other}", "same no") for mark, other in pairs]
     yield "going back", [("goto turn", f"at {STEPS} 0"), ("drop other", "dropped")]
 
 
@@ -103,7 +103,7 @@ def rolling(number: int) -> Checks:
     yield f"the {left} steps that stay", records(stay) + [(f"step {left + 1}", f"refused 12 NoSuchStep {left}")]
     yield f"the {len(gone)} that went, redone", [(f"forward {len(gone)}", f"at {STEPS} 0"), *records(gone, left + 1)]
     pairs = (("turn", "rolled"), ("rolled", "turn"), ("single", "rolled"))
-    compared = [(f"same {one} {two}", "same yes") for one, two in pairs]
+    compared = [(f"same {mark} {other}", "same yes") for mark, other in pairs]
     yield "`same` of the run and this", [("mark rolled", f"marked {STEPS}"), *compared]
     yield "going back", [("goto turn", f"at {STEPS} 0"), ("drop rolled", "dropped")]
 

@@ -11,8 +11,7 @@ trace of that run, byte for byte. A single viewer gets these answers without the
 the calls of several viewers are not written, the text has a reply to each line and no more.
 
 Each seed prints one line for each build of the program; the status is 1 if a view is another one.
-`--seed S --count 1` makes the scripts of seed S again; the viewers' calls may then have another
-order. Only Python's standard library is used.
+`--seed S --count 1` makes the scripts of seed S again; the viewers' calls may then have another order.
 """
 
 import random
@@ -22,11 +21,10 @@ from dataclasses import dataclass
 from pathlib import Path
 
 from lcrq_tools import history, program
-from lcrq_tools.checks import viewer_scripts
-from lcrq_tools.checks.viewer_scripts import (
-    ANY, HISTORY, TRACE,
-    answers_to, calls_of, difference, own, random_script, refusal_of, text_of, written_script,
-)
+from lcrq_tools.checks import histories, replies
+from lcrq_tools.checks.random_scripts import random_script, text_of, written_script
+from lcrq_tools.checks.replies import TRACE
+from lcrq_tools.checks.histories import ANY, HISTORY, calls_of, difference
 from lcrq_tools.faults import Parser
 from lcrq_tools.history import History
 from lcrq_tools.options import add_program
@@ -44,7 +42,7 @@ class View:
 
     scripts: list[list[str]]  # of each viewer its lines
     words: list[str]  # that view them
-    replay: list[str]  # that answer one script on standard input, and write the trace
+    replay: list[str]  # that answer one script on standard input
 
     def one_by_one(self) -> History:
         """The history of viewers who ask one after the other; the only one of a single viewer."""
@@ -57,58 +55,36 @@ class View:
 
 def script_of(chance: random.Random, actors: int) -> list[str]:
     """A script of a viewer, short or long."""
-    return random_script(chance, actors, chance.randint(0, chance.choice(MOST_LINES)))
+    return random_script(chance, histories.LINES, actors, chance.randint(0, chance.choice(MOST_LINES)))
 
 
 def random_view(chance: random.Random, folder: Path, built: str) -> View:
     """A view of random scripts, which are written into a folder."""
-    machine = viewer_scripts.fresh_machine(chance, built)
+    machine = histories.fresh_machine(chance, built)
     if chance.random() < OVER_A_TRACE:
-        machine = viewer_scripts.continued(machine, folder, script_of(chance, machine.actors))
+        machine = histories.continued(machine, folder, script_of(chance, machine.actors))
     scripts = [script_of(chance, machine.actors) for _ in range(chance.randint(1, MOST_VIEWERS))]
     files = [written_script(folder / f"{viewer}.script", script) for viewer, script in enumerate(scripts, 1)]
-    return View(scripts, [built, "view", *files, *machine.options], machine.replay)
+    return View(scripts, [built, "view", *files, *machine.options()], machine.replay())
 
 
 # ---- What a view should write --------------------------------------------------------------------
 
 
-def report_of(scripts: list[list[str]], asked: History, replies: list[str]) -> list[str]:
-    """The lines of a report, as far as the number of calls, if the calls of this history get these
-    replies."""
-    lines = []
-    for viewer, script in enumerate(scripts, 1):
-        left = iter(own(viewer, asked, replies))
-        lines += [f"viewer {viewer}", *(refusal_of(line) or next(left) for line in script)]
-    return [*lines, f"history {len(asked.lines)}"]
-
-
-def calls_fault(scripts: list[list[str]], asked: History) -> str:
-    """What is wrong with the calls of the viewers, or nothing."""
-    checks = ((viewer, own(viewer, asked, asked.lines), calls_of(it)) for viewer, it in enumerate(scripts, 1))
-    faults = (difference(f"viewer {viewer}: call", got, wanted) for viewer, got, wanted in checks)
-    return next(filter(None, faults), "")
-
-
 def view_fault(view: View, options: list[str]) -> str:
     """What is wrong with what a view writes with these options, or nothing."""
-    lines = viewer_scripts.written([*view.words, *options])
+    lines = replies.written([*view.words, *options])
     asked = view.one_by_one()
     if HISTORY in options:
         asked = history.history_of("the view", text_of(lines))
-        fault = calls_fault(view.scripts, asked)
-        if fault:
+        faults = (histories.calls_fault(viewer, script, asked) for viewer, script in enumerate(view.scripts, 1))
+        if fault := next(filter(None, faults), ""):
             return fault
     is_known = HISTORY in options or len(view.scripts) == 1
-    *replies, trace = answers_to(view.replay, asked) if is_known else [ANY] * (len(asked.lines) + 1)
-    wanted = report_of(view.scripts, asked, replies)
-    if HISTORY in options:
-        wanted += [f"{viewer} {line}" for viewer, line in zip(asked.viewers, asked.lines)]
-    if TRACE in options:
-        wanted.append(trace)
+    answers = histories.answers_to(view.replay, asked) if is_known else [ANY] * (len(asked.lines) + 1)
     if (TRACE in options) != lines[-1].startswith(history.TRACE):
         return f"it ends with `{lines[-1]}`"
-    return difference("line", lines, wanted)
+    return difference("line", lines, histories.view_of(view.scripts, asked, answers, options))
 
 
 # ---- All views -----------------------------------------------------------------------------------
@@ -120,9 +96,9 @@ def seed_fault(seed: int, built: str) -> str:
         view = random_view(random.Random(seed), Path(folder), built)
         fewer = FEWER if len(view.scripts) == 1 else [FEWER[seed % len(FEWER)]]
         tried: list[list[str]] = [[HISTORY, TRACE], *fewer]
-        faults = ((options, program.tried(view_fault, view, options)) for options in tried)
-        said = (f"with {' '.join(options) or 'no option'}, {fault}" for options, fault in faults if fault)
-        return next((f"{len(view.scripts)} viewers {it}" for it in said), "")
+        faults = ((words, program.tried(view_fault, view, words)) for words in tried)
+        count = f"{len(view.scripts)} viewers with"
+        return next((f"{count} {' '.join(words) or 'no option'}, {fault}" for words, fault in faults if fault), "")
 
 
 def all_checks(built: str, seeds: range) -> Iterator[tuple[str, str]]:

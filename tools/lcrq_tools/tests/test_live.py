@@ -6,7 +6,7 @@ from collections.abc import Callable, Sequence
 from pathlib import Path
 from unittest import mock
 
-from lcrq_tools.checks import live, viewer_scripts
+from lcrq_tools.checks import histories, live, replies
 from lcrq_tools.clients import Dialogue, replies_of
 from lcrq_tools.faults import Fault
 from lcrq_tools.program import tried
@@ -24,7 +24,7 @@ def fault(output: Sequence[str] = OUTPUT, dialogues: Sequence[Dialogue] = BOTH, 
     def found() -> str:
         return next(filter(None, live.faults_of("\n".join(output) + end, dialogues, ["run"])), "")
 
-    with mock.patch.object(viewer_scripts, "written", lambda _words, script: answers(script)):
+    with mock.patch.object(replies, "written", lambda _words, script: answers(script)):
         return tried(found)
 
 
@@ -132,8 +132,8 @@ class Replies(unittest.TestCase):
         self.assertEqual(fault(OUTPUT, [FIRST, number]), said)
 
     def test_a_long_line_is_faulty(self) -> None:
-        self.assertEqual(viewer_scripts.refusal_of(live.LONG), "refused 23 LineTooLong")
-        self.assertEqual(viewer_scripts.calls_of(["len", live.LONG, "", "go1"]), ["len"])
+        self.assertEqual(histories.refusal_of(live.LONG), "refused 23 LineTooLong")
+        self.assertEqual(histories.calls_of(["len", live.LONG, "", "go1"]), ["len"])
 
 
 class Cuts(unittest.TestCase):

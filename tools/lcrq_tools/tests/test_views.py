@@ -3,8 +3,9 @@
 import unittest
 from unittest import mock
 
-from lcrq_tools.checks import viewer_scripts, views
-from lcrq_tools.checks.viewer_scripts import HISTORY, TRACE
+from lcrq_tools.checks import replies, views
+from lcrq_tools.checks.replies import TRACE
+from lcrq_tools.checks.histories import HISTORY
 from lcrq_tools.checks.views import View
 from lcrq_tools.program import tried
 from lcrq_tools.tests.stubs import SESSION, answers
@@ -21,7 +22,7 @@ def fault(lines: list[str], *options: str, view: View = VIEW) -> str:
     def written(words: list[str], script: bytes = b"") -> list[str]:
         return lines if words[0] == "view" else answers(script)
 
-    with mock.patch.object(viewer_scripts, "written", written):
+    with mock.patch.object(replies, "written", written):
         return tried(views.view_fault, view, [*options])
 
 
