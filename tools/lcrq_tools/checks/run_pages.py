@@ -154,7 +154,7 @@ def state_fault(text: str, arguments: argparse.Namespace, each: int) -> str:
         trace = replies.trace_of(session)
         with replies.loaded(arguments.program, trace) as ask:
             asked = Replies(ask, session, segments | replies.segments_of(trace), slots)
-        said = run.lines[line - 1].decode("ascii", "replace") if index else f"{asked.live} live steps"
+        said = run.text(line) if index else f"{asked.live} live steps"
         fault = (
             places_fault(state, asked, names)
             or room_fault(state, rooms)

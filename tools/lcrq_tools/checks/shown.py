@@ -26,7 +26,7 @@ class Moment(replies.Replies):
         super().__init__(session.ask, session, segments, replies.array())
         self.line, self.text, self.reply, self.viewer = line, "", "", ""
         if line:
-            self.text, self.reply = run.lines[line - 1].decode(), session.replies_to([])[-1]
+            self.text, self.reply = run.text(line), session.replies_to([])[-1]
             self.viewer = f"viewer {session.viewers[-1]}" if session.viewers else ""
         self.begin = f"{self.viewer}, {self.text}" if self.viewer else self.text  # how the line is named in words
 

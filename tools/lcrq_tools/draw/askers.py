@@ -1,4 +1,4 @@
-"""Which viewer asked each step of a run, whose lines are a history.
+"""Tells a picture and a page which viewer asked each step of a run, whose lines are a history.
 
 A step belongs to the viewer whose line made it first, also after others undid it or made it again.
 Steps of the start belong to no viewer. The lines are gone along one by one, and each reply says what
@@ -12,7 +12,7 @@ from typing import NamedTuple
 
 from lcrq_tools.draw.figure import Session
 from lcrq_tools.faults import Fault
-from lcrq_tools.program import Broken, Driven, lines_of
+from lcrq_tools.program import Driven
 from lcrq_tools.records import Counts, Event, Made, Said, Step, read_reply
 
 NOBODY = 0  # in place of a viewer, for a step of the start
@@ -41,51 +41,47 @@ class Steps:
         """Does what a line of this viewer did, by its reply. `rolled` are the actors of the steps that a
         `roll` took."""
         word, _, rest = line.partition(" ")
-        said = read_reply(reply)
-        if isinstance(said, Made):
-            self.live.append(AskedStep(viewer, Event.read(line).actor))
-            self.undone = []
-        elif isinstance(said, Said) and said.word == "marked":
-            self.marks[rest] = [*self.live]
-        elif isinstance(said, Said) and said.word == "dropped":
-            self.marks.pop(rest, None)
-        elif isinstance(said, Counts):
-            self.move(word, rest, said.live, rolled)
-            if (len(self.live), len(self.undone)) != (said.live, said.undone):
-                raise Fault(f"the steps can't be followed: `{line}` is answered {reply}")
+        match read_reply(reply):
+            case Made():
+                self.live.append(AskedStep(viewer, Event.read(line).actor))
+                self.undone = []
+            case Said("marked"):
+                self.marks[rest] = [*self.live]
+            case Said("dropped"):
+                self.marks.pop(rest, None)
+            case Counts(live, undone):
+                self.move(word, rest, live, rolled)
+                if (len(self.live), len(self.undone)) != (live, undone):
+                    raise Fault(f"the steps can't be followed: `{line}` is answered {reply}")
 
     def move(self, word: str, rest: str, live: int, rolled: Sequence[int]) -> None:
         """Moves steps as a line that begins with this word does, after which so many are live."""
         count = len(self.live)
         if word in ("undo", "back"):
             first = int(rest) - 1 if word == "undo" and rest else live
-            self.take([first] if word == "undo" else range(first, count))
+            self.take({first} if word == "undo" else {*range(first, count)})
         elif word == "roll":
-            self.take(last_of(self.live, rolled))
+            self.take({*last_of(self.live, rolled)})
         elif word in ("redo", "forward"):
             made = live - count
             self.live, self.undone = self.live + self.undone[:made], self.undone[made:]
         elif word == "goto":
             self.live, self.undone = [*self.marks.get(rest, [AskedStep(NOBODY, 0)] * live)], []
 
-    def take(self, places: Collection[int]) -> None:
+    def take(self, places: set[int]) -> None:
         """Undoes the steps at these places, the last one first."""
-        taken = {*places}
-        self.undone = [self.live[at] for at in sorted(taken)] + self.undone
-        self.live = [step for at, step in enumerate(self.live) if at not in taken]
+        self.undone = [self.live[place] for place in sorted(places)] + self.undone
+        self.live = [step for place, step in enumerate(self.live) if place not in places]
 
 
 def last_of(steps: Sequence[AskedStep], actors: Sequence[int]) -> list[int]:
     """The places of the last steps of these actors, as many of each as it is named."""
     left, places = Counter(actors), []
-    for at in range(len(steps) - 1, -1, -1):
-        if left[steps[at].actor]:
-            left[steps[at].actor] -= 1
-            places.append(at)
+    for place in reversed(range(len(steps))):
+        if left[steps[place].actor]:
+            left[steps[place].actor] -= 1
+            places.append(place)
     return places
-
-
-# ---- What the program replies ---------------------------------------------------------------------
 
 
 def actors_of(driven: Driven, live: int, undone: int) -> list[int]:
@@ -115,16 +111,12 @@ def rolled_by(driven: Driven, line: str, reply: str, before: int) -> list[int]:
 
 def viewers_after(session: Session, lines: Collection[int]) -> dict[int, list[int]]:
     """The viewers of the live and then of the undone steps after each of these numbers of lines."""
-    script = lines_of(session.script.decode("latin-1"))
-    try:
-        with Driven(session.words) as driven:
-            steps = start_of(driven)
-            found = {0: steps.viewers()}
-            for number, (viewer, line) in enumerate(zip(session.viewers, script), 1):
-                reply = driven.ask(line)[0]
-                steps.follow(viewer, line, reply, rolled_by(driven, line, reply, len(steps.undone)))
-                if number in lines:
-                    found[number] = steps.viewers()
-            return found
-    except (Broken, OSError) as fault:
-        raise Fault(f"the viewers of the steps can't be asked for: {fault}") from fault
+    with session.driven("the viewers of the steps") as driven:
+        steps = start_of(driven)
+        found = {0: steps.viewers()}
+        for number, (viewer, line) in enumerate(zip(session.viewers, session.lines), 1):
+            reply = driven.ask(line)[0]
+            steps.follow(viewer, line, reply, rolled_by(driven, line, reply, len(steps.undone)))
+            if number in lines:
+                found[number] = steps.viewers()
+        return found

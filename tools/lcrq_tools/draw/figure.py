@@ -1,19 +1,21 @@
-"""What `tools/picture.py` and `tools/moment.py` share: the session that a script or a history leaves,
-whose replies a figure is made from, the elements of SVG, colours and sizes.
+"""The tools that draw take from here the session whose replies they draw, the elements of SVG, colours and sizes.
 
 A figure's text is plain: no script, no font of its own, and a title and a description in words.
-Only Python's standard library is used.
 """
 
 import argparse
-from collections.abc import Callable, Iterable, Sequence
-from html import escape
+import itertools
+import re
+from collections.abc import Callable, Iterable, Iterator, Sequence
+from contextlib import contextmanager
 from pathlib import Path
+from xml.etree import ElementTree
+from xml.etree.ElementTree import Element
 
 from lcrq_tools import history
 from lcrq_tools.faults import Fault, say
 from lcrq_tools.options import MOST_ACTORS, start_words, write
-from lcrq_tools.program import bytes_of, refusals_of, run, world_of
+from lcrq_tools.program import Broken, Driven, bytes_of, lines_of, refusals_of, run, world_of
 from lcrq_tools.records import Counts, content_of
 
 # The colours of Okabe and Ito: of an actor's dots and lines, and darker for its words. Their
@@ -28,6 +30,7 @@ ACTORS = [
 ]
 ASKED, ASKED_WORDS, SHADE = "#d55e00", "#9c4500", 0.2
 BAND, GROUND, LANE, GREY, DARK = "#f1f1ee", "#ffffff", "#b9b9b4", "#6a6a6a", "#222222"
+FONTS = "DejaVu Sans, Verdana, sans-serif"
 
 # Sizes, in pixels.
 MARGIN = 16
@@ -49,13 +52,14 @@ class Session:
     def __init__(self, arguments: argparse.Namespace) -> None:
         self.words = words_of(arguments)
         self.script, self.viewers = given_of(arguments)
+        self.lines = lines_of(self.script.decode("latin-1"))  # whose letters are their bytes
         trace: str | None = arguments.trace
         takes_refused: bool = arguments.refused
         self.over = f"{trace}: " if trace else ""  # what a fault of the program names
         cells = [f"show index 0.0 {cell}" for cell in range(MOST_CELLS)]
         actors = [f"actor {actor}" for actor in range(1, MOST_ACTORS + 1)]
         asked = ["len", *cells, *actors]
-        replies = self.replies_to(asked)
+        replies = self.replies_to([*self.lines, *asked])
         given, about = replies[:-len(asked)], replies[-len(asked):]
         if len(about) < len(asked) or not about[0].startswith("at "):
             raise Fault(f"{self.words[0]} does not reply as lcrqdb does")
@@ -71,17 +75,34 @@ class Session:
         """What the world is, in words."""
         return world_of(self.actors, self.ring)
 
-    def replies_to(self, lines: Sequence[str]) -> list[str]:
-        """The replies to the script and to these lines after it."""
-        given = self.script + "".join(f"{line}\n" for line in lines).encode("ascii")
-        ended = run(self.words, given)
+    def replies_to(self, lines: Iterable[str]) -> list[str]:
+        """The replies to these lines alone, whose letters are their bytes."""
+        ended = run(self.words, "".join(f"{line}\n" for line in lines).encode("latin-1"))
         if ended.status:
             raise Fault(self.over + (ended.errors.strip() or f"the program ended with status {ended.status}"))
         return ended.output.decode("ascii").splitlines()
 
+    def replies_to_parts(self, parts: Sequence[Sequence[str]]) -> list[list[str]]:
+        """The replies to the lines of each part, all in one run."""
+        replies = iter(self.replies_to(itertools.chain(*parts)))
+        return [[*itertools.islice(replies, len(part))] for part in parts]
+
+    def ask_parts(self, parts: Iterable[Sequence[str]]) -> list[list[str]]:
+        """The replies to the lines of each part after the script."""
+        return self.replies_to_parts([self.lines, *parts])[1:]
+
     def ask(self, lines: Sequence[str]) -> list[str]:
         """The replies to these lines after the script."""
-        return self.replies_to(lines)[-len(lines):] if lines else []
+        return self.ask_parts([lines])[0] if lines else []
+
+    @contextmanager
+    def driven(self, what: str) -> Iterator[Driven]:
+        """A run that is asked line by line, for what these words name."""
+        try:
+            with Driven(self.words) as driven:
+                yield driven
+        except (Broken, OSError) as fault:
+            raise Fault(f"{what} can't be asked for: {fault}") from fault
 
     def moved_to(self, first: int) -> list[str]:
         """Lines that undo all steps, and then make those before this one."""
@@ -137,17 +158,12 @@ def width_of(text: str, size: float, bold: bool = False) -> float:
     return wide * size * (BOLD if bold else 1)
 
 
-def element(name: str, text: str | None = None, /, **values: object) -> str:
+def element(name: str, text: str | None = None, /, **values: object) -> Element:
     """An element of SVG; `_` in a name is `-`, and a value of None is left out."""
-    given = ((key.rstrip("_").replace("_", "-"), value) for key, value in values.items() if value is not None)
-    words = "".join(f" {key}={quoted(number(value))}" for key, value in given)
-    return f"<{name}{words}/>" if text is None else f"<{name}{words}>{escape(text, quote=False)}</{name}>"
-
-
-def quoted(text: str) -> str:
-    """A text as the value of an attribute."""
-    value = escape(text, quote=False).replace('"', "&quot;")
-    return f'"{value}"'
+    given = {key.rstrip("_").replace("_", "-"): number(value) for key, value in values.items() if value is not None}
+    made = Element(name, given)
+    made.text = text
+    return made
 
 
 def number(value: object) -> str:
@@ -155,7 +171,9 @@ def number(value: object) -> str:
     return f"{value:.1f}".removesuffix(".0") if isinstance(value, float) else str(value)
 
 
-def words_at(x: float, y: float, text: str, size: float, fill: str, anchor: str = "start", bold: bool = False) -> str:
+def words_at(
+    x: float, y: float, text: str, size: float, fill: str, anchor: str = "start", bold: bool = False
+) -> Element:
     """A text at this point."""
     weight = "bold" if bold else None
     return element("text", text, x=x, y=y, font_size=size, fill=fill, text_anchor=anchor, font_weight=weight)
@@ -168,27 +186,36 @@ def colour_of(actor: int) -> tuple[str, str]:
 
 def mixed(colour: str, ground: str, part: float) -> str:
     """The colour that is seen where this part of it is over a ground."""
-    pairs = [(int(colour[at: at + 2], 16), int(ground[at: at + 2], 16)) for at in (1, 3, 5)]
+    pairs = [(int(colour[digit: digit + 2], 16), int(ground[digit: digit + 2], 16)) for digit in (1, 3, 5)]
     return "#" + "".join(f"{round(part * over + (1 - part) * under):02x}" for over, under in pairs)
 
 
-def group(name: str, lines: Iterable[str], opacity: float | None = None) -> list[str]:
-    """Elements as one, if there are any."""
-    inside = list(lines)
-    given = f' opacity="{opacity}"' if opacity else ""
-    return [f'<g class="{name}"{given}>', *inside, "</g>"] if inside else []
+def group(kind: str, inside: Iterable[Element], **values: object) -> Element:
+    """Elements as one, of this class."""
+    made = element("g", class_=kind, **values)
+    made.extend(inside)
+    return made
 
 
-def svg(title: str, about: str, width: float, height: float, lines: Iterable[str]) -> str:
-    """A whole figure on a white ground of its own, with its title and its description."""
-    size = f'width="{width}" height="{height}" viewBox="0 0 {width} {height}"'
-    head = [
-        f'<svg xmlns="http://www.w3.org/2000/svg" {size} role="img" font-family="DejaVu Sans, Verdana, sans-serif">',
-        element("title", title),
-        element("desc", about),
-        element("rect", width=width, height=height, fill=GROUND),
-    ]
-    return "\n".join([*head, *lines, "</svg>"]) + "\n"
+def xml_of(root: Element) -> str:
+    """An element as ElementTree writes it, but that an empty one ends without a blank, and an empty text with a
+    tag of its own. As `>` is escaped, there is no other ` />`."""
+    text = ElementTree.tostring(root, "unicode")
+    return re.sub(r"(<text [^<>]*) />", r"\1></text>", text).replace(" />", "/>")
+
+
+def svg(title: str, about: str, width: float, height: float, inside: Iterable[Element]) -> str:
+    """A whole figure on a white ground of its own, with its title and its description: an element a line.
+    Groups that have nothing in them are left out."""
+    root = element(
+        "svg", xmlns="http://www.w3.org/2000/svg", width=width, height=height, viewBox=f"0 0 {width} {height}",
+        role="img", font_family=FONTS,
+    )
+    ground = element("rect", width=width, height=height, fill=GROUND)
+    root.extend([element("title", title), element("desc", about), ground])
+    root.extend(child for child in inside if child.tag != "g" or len(child))
+    ElementTree.indent(root, "")
+    return xml_of(root) + "\n"
 
 
 # ---- The command line -----------------------------------------------------------------------------

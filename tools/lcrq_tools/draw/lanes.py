@@ -1,16 +1,17 @@
-"""What a picture of a run is made of, and where it is: `drawing.py` draws it.
+"""Lays out a picture of a run for `drawing.py`, and the lanes of a page for `page_lanes.py`.
 
 A picture is its lanes and its rows. A lane is named after its actor or its place. Rows stand in parts,
 each below headings of its own, so that a long picture can be read. Where steps of the run are left out,
 a break stands between two rows. Labels get the room that a wide font needs, so that no two overlap.
 """
 
-from collections.abc import Collection, Iterable, Sequence
+import itertools
+from collections.abc import Collection, Iterable, Mapping, Sequence
 from dataclasses import dataclass, field
 
 from lcrq_tools.draw.figure import HEAD, MARGIN, PLAIN, SMALL, width_of
 from lcrq_tools.draw.viewer_marks import viewer_name, width_of_marks
-from lcrq_tools.records import Actor, Place, Step
+from lcrq_tools.records import Actor, Place, Step, content_of
 
 # Sizes, in pixels.
 ROW, DOT, GAP, BREAK = 22, 4.5, 14, 10
@@ -65,6 +66,17 @@ class Row:
         if not actor.is_idle():
             self.point = f"{actor.point} {self.point}".strip()
         self.dots = [dot_of(self.step, *content) for content in contents]
+
+    def questions(self, lanes: Collection[str], before: int) -> list[str]:
+        """What is asked about it from behind step `before` on: its actor, and its lanes before and after it."""
+        shows = [f"show {lane}" for lane in lanes_of(self.step.place, lanes)]
+        return [f"forward {self.step.number - before - 1}", actor_lane(self.actor()), *shows, "forward 1", *shows]
+
+    def take(self, lanes: Collection[str], replies: Sequence[str]) -> None:
+        """Fills it with the replies to these questions."""
+        touched = lanes_of(self.step.place, lanes)
+        contents = [content_of(reply) for reply in replies[2:]]
+        self.fill(Actor.read(replies[1]), zip(touched, contents, contents[len(touched) + 1:]))
 
     def sentence(self) -> str:
         """The step in words, without its number."""
@@ -174,12 +186,50 @@ def band_of(lane: str) -> str:
     return "" if place.kind == "actor" else place.segment or "array"
 
 
-def heading_of(band: str) -> str:
-    """What is above a band."""
-    return f"segment {band}" if "." in band else band
-
-
 # ---- Where everything is --------------------------------------------------------------------------
+
+
+def room_of(lane: str, rows: Collection[Row], start: str) -> tuple[float, float]:
+    """How much room a lane needs at its left and its right, for its name, the words of these rows, and what is
+    there before them."""
+    if not actor_of(lane):
+        texts = [start, *(dot.text for row in rows for dot in row.dots if dot.lane == lane)]
+        half = width_of(name_of(lane), SMALL) / 2 + 2
+        return max(half, 12), max([half, *(width_of(text, SMALL, True) + 10 for text in texts)])
+    own = [row for row in rows if actor_lane(row.actor()) == lane]
+    half = width_of(lane, HEAD, True) / 2 + 2
+    lefts = (width_of(text, PLAIN) + 16 for text in (start, *(row.point for row in own)))
+    return max([half, *lefts]), max([half, *(width_of(row.step.reply, PLAIN, True) + 14 for row in own)])
+
+
+class Across:
+    """Where the lanes of some rows and the bands around them are, from the left to the right."""
+
+    def __init__(
+        self, lanes: Iterable[str], rows: Collection[Row], start: Mapping[str, str], left: float,
+        apart: Collection[str] = (),
+    ) -> None:
+        self.apart, self.right = apart, left
+        self.lanes: dict[str, int] = {}
+        self.bands: list[tuple[str, int, int]] = []
+        for band, inside in itertools.groupby(lanes, band_of):
+            self.put_band(band, {lane: room_of(lane, rows, start.get(lane, "")) for lane in inside})
+
+    def put_band(self, band: str, rooms: dict[str, tuple[float, float]]) -> None:
+        """Puts the lanes of a band, which need this room, behind all others."""
+        left = right = self.right + (GAP if band else 0)
+        for lane, (before, after) in rooms.items():
+            self.lanes[lane] = round(right + before)
+            right = self.lanes[lane] + after + GAP / 2
+        if band:
+            right = max(right, left + width_of(self.heading_of(band), HEAD, True) + 2 * GAP)
+            self.bands.append((band, round(left), round(right)))
+        self.right = right
+
+    def heading_of(self, band: str) -> str:
+        """What is above a band."""
+        segment = f"segment {band}" if "." in band else band
+        return f"{segment}, never linked" if band in self.apart else segment
 
 
 @dataclass
@@ -194,21 +244,18 @@ class Part:
         return self.down + LANE_TOP, self.bottom - 4
 
 
-class Layout:
+class Layout(Across):
     """Where the lanes, the bands and the rows of a picture are."""
 
     def __init__(self, picture: Picture, words: float, legend: list[str]) -> None:
         self.picture = picture
+        viewers = picture.viewers()
         names = [picture.start_name, *(row.name() for row in picture.rows)]
         self.numbers = MARGIN + max(width_of(name, SMALL, True) for name in names)
-        self.marks = width_of_marks(picture.viewers())  # the room for viewers' marks, at the right of the numbers
-        self.lanes: dict[str, int] = {}
-        self.bands: list[tuple[str, int, int]] = []
-        at = self.numbers + 8 + (self.marks + 4 if self.marks else 0)
-        for band in dict.fromkeys(band_of(lane) for lane in picture.lanes):
-            at = self.put_band(band, at + (GAP if band else 0))
-        self.right = round(at)
-        self.width = round(max(at + MARGIN, 420.0, words + 2 * MARGIN))
+        self.marks = width_of_marks(viewers)  # the room for viewers' marks, at the right of the numbers
+        left = self.numbers + 8 + (self.marks + 4 if self.marks else 0)
+        super().__init__(picture.lanes, picture.rows, picture.start if picture.start_name else {}, left, picture.apart)
+        self.width = round(max(self.right + MARGIN, 420.0, words + 2 * MARGIN))
         self.rows: list[int] = []
         self.breaks: list[int] = []
         self.parts = [Part(0)]
@@ -216,49 +263,15 @@ class Layout:
         self.bottom = self.parts[-1].bottom
         self.words = self.bottom + 22
         self.legend = self.put_legend(self.words + (20 if words else -4), [(MARK, text) for text in legend])
-        viewers = [(self.marks, viewer_name(viewer)) for viewer in picture.viewers()]
-        self.viewers = self.put_legend(self.legend[-1][1] + LEGEND_ROW, viewers)
+        marks = [(self.marks, viewer_name(viewer)) for viewer in viewers]
+        self.viewers = self.put_legend(self.legend[-1][1] + LEGEND_ROW, marks)
         self.height = [*self.legend, *self.viewers][-1][1] + 16
-
-    def put_band(self, band: str, left: float) -> float:
-        """Puts the lanes of a band, from here on; returns where it ends."""
-        at = left
-        for lane in self.picture.lanes:
-            if band_of(lane) == band:
-                before, after = self.room_of(lane)
-                self.lanes[lane] = round(at + before)
-                at = self.lanes[lane] + after + GAP / 2
-        if not band:
-            return at
-        right = max(at, left + width_of(self.heading_of(band), HEAD, True) + 2 * GAP)
-        self.bands.append((band, round(left), round(right)))
-        return right
-
-    def heading_of(self, band: str) -> str:
-        """What is above a band."""
-        return f"{heading_of(band)}{', never linked' if band in self.picture.apart else ''}"
-
-    def room_of(self, lane: str) -> tuple[float, float]:
-        """How much room a lane wants at its left and its right, for its words."""
-        half = width_of(name_of(lane), SMALL) / 2 + 2
-        starts = [self.picture.start[lane]] if self.picture.start_name else []
-        if not actor_of(lane):
-            texts = [dot.text for row in self.picture.rows for dot in row.dots if dot.lane == lane]
-            widest = max((width_of(text, SMALL, True) for text in [*texts, *starts]), default=0)
-            return max(half, 12), max(half, widest + 10)
-        rows = [row for row in self.picture.rows if actor_lane(row.actor()) == lane]
-        half = width_of(lane, HEAD, True) / 2 + 2
-        points = [*(row.point for row in rows), *starts]
-        return (
-            max([half, *(width_of(point, PLAIN) + 16 for point in points)]),
-            max([half, *(width_of(row.step.reply, PLAIN, True) + 14 for row in rows)]),
-        )
 
     def put_rows(self) -> None:
         """Puts the rows below each other, with headings again after some, and the breaks."""
         y, number = FIRST_ROW - ROW + (ROW if self.picture.start_name else 0), self.picture.first - 1
-        for at, row in enumerate(self.picture.rows):
-            if at and at % MOST_BELOW == 0:
+        for index, row in enumerate(self.picture.rows):
+            if index and index % MOST_BELOW == 0:
                 self.parts[-1].bottom = y + PART_END
                 self.parts.append(Part(y + PART_END - BAND_TOP + 4))
                 y = self.parts[-1].down + FIRST_ROW - ROW

@@ -1,11 +1,9 @@
 """Draws the queue at one moment of a run: its segments, its array, and where each actor stands.
 
-    python3 tools/moment.py (SCRIPT | --history FILE) [--line N] [-o OUT.svg] [--actors A] [--ring R]
-        [--trace FILE] [--refused] [--program P]
+    python3 tools/moment.py session.script --line 7 -o moment.svg
 
-SCRIPT, or its first N lines, is run by the built program, over the fresh world, or with `--trace`
-over that trace; `-` is standard input, and without `-o`, or with `-o -`, the drawing goes to
-standard output. What is drawn is the moment after line N, or after the last line.
+SCRIPT, or its first N lines, is run by the built program. What is drawn is the moment after line N, or
+after the last line.
 
 A segment is a box with all cells of its ring; its tail counter stands above the cell of the
 position that the next enqueue draws, its head counter below that of the next dequeue. Linked
@@ -14,25 +12,20 @@ them, in a broken frame. A long list is cut where no end of the queue is and nob
 The array is drawn where it was touched. An actor in a call is a chip: its control point, the lines
 of that row in the pseudo-code of docs/MODEL.md, its words that the row reads, and the place that its
 next step would touch, to which a line leads. What the last live step wrote is marked in its actor's
-colour.
-
-`--history` draws a moment of what several viewers did, by the calls that `lcrqdb view FILE.. --history`
-writes (`history.py`). The viewer of the last line is named, and has its mark.
-
-Where a line is refused that makes a step or is no command, as when a `--ring` is forgotten, nothing
-is drawn and the status is 1, unless `--refused` is given.
+colour. Of a history the viewer of the last line is named, and has its mark.
 
 Each fact is a reply of the program to a line of a script: this is a client of its text interface.
 Which place a next step would touch is asked by making it and undoing it again. The same input gives
-the same bytes. Only Python's standard library is used.
+the same bytes.
 """
 
 import argparse
+import itertools
 import re
 from collections.abc import Iterable, Iterator, Sequence
-from dataclasses import dataclass, field
 
 from lcrq_tools import model
+from lcrq_tools.draw.boxes import SLOTS, Chip, Last, Moment, Segment
 from lcrq_tools.draw.figure import Session, in_order, kind_of, script_name, write_drawn
 from lcrq_tools.draw.queue_drawing import draw
 from lcrq_tools.draw.viewer_marks import viewer_name
@@ -40,79 +33,9 @@ from lcrq_tools.faults import Fault
 from lcrq_tools.options import number_above_0, run_parser
 from lcrq_tools.records import WORDS, Actor, Cell, Place, Refusal, Step, Tail, content_of, is_made
 
-SLOTS = 64
 AT_ONCE = 16  # of how many segments of a maker one run asks
 
 Code = dict[str, dict[str, list[str]]]  # the lines of each control point, by the calls
-
-
-@dataclass
-class Segment:
-    """A segment, with what is at its places."""
-
-    name: str
-    head: int
-    tail: Tail
-    next: str
-    cells: list[Cell]
-    is_linked: bool = True
-
-
-@dataclass
-class Chip:
-    """An actor in a call."""
-
-    actor: int
-    call: str
-    point: str
-    lines: list[str]  # of the pseudo-code
-    words: list[str]  # those that these lines read, each with its name
-    place: str  # which the next step would touch; nothing if there is none
-    note: str = ""  # why there is none
-
-
-@dataclass
-class Last:
-    """The last live step."""
-
-    step: Step
-    point: str
-
-    def actor(self) -> int:
-        """The actor that made it."""
-        return self.step.event.actor
-
-    def places(self) -> list[str]:
-        """The places that it wrote."""
-        return [str(place) for place in self.step.wrote()]
-
-    def sentence(self) -> str:
-        """The step in words."""
-        step = self.step
-        begins = f"step {step.number}: actor {self.actor()}"
-        if not step.place:
-            return f"{begins}, {step.event}"
-        reply = f"; the call replied {step.reply}" if step.reply else ""
-        access = "wrote the index half of" if step.access == "wrote index" else step.access
-        return f"{begins} at {self.point} {access} {step.place}: {step.answer}{reply}"
-
-
-@dataclass
-class Moment:
-    """What is to be drawn."""
-
-    title: str
-    caption: str
-    world: str  # how many actors, and the rings' size
-    qhead: str
-    qtail: str
-    segments: list[Segment]  # linked ones first, in the order of their links
-    array: dict[str, str]  # the replies about its counters and slots, by their places
-    chips: list[Chip]
-    idle: list[int]  # the actors that are in no call
-    last: Last | None
-    near: set[str] = field(default_factory=set)  # the segments that are never left out
-    viewer: int = 0  # who asked the last line, where the run is of viewers
 
 
 # ---- Memory ---------------------------------------------------------------------------------------
@@ -128,12 +51,11 @@ def names_of(session: Session, actors: Iterable[int]) -> list[str]:
     """The names of all segments: the root, and those that each actor has made."""
     names = ["0.0"]
     for maker in actors:
-        first, has_more = 0, True
-        while has_more:
-            tried = [f"whole {maker}.{number}" for number in range(first, first + AT_ONCE)]
-            found = contents_of(session, tried)
+        for first in itertools.count(0, AT_ONCE):
+            found = contents_of(session, [f"whole {maker}.{number}" for number in range(first, first + AT_ONCE)])
+            if not found:
+                break
             names += [Place.read(place).segment for place in found]
-            first, has_more = first + AT_ONCE, bool(found)
     return names
 
 
@@ -143,17 +65,12 @@ def segments_of(session: Session, names: Sequence[str], ring: int, ends: Sequenc
     places += [f"cell {name} {cell}" for name in names for cell in range(ring)]
     content = contents_of(session, places)
     linked, apart = in_order({name: content[f"next {name}"] for name in names}, ends)
-    return [
-        Segment(
-            name,
-            int(content[f"head {name}"]),
-            Tail.read(content[f"tail {name}"]),
-            content[f"next {name}"],
-            [Cell.read(content[f"cell {name} {index}"]) for index in range(ring)],
-            name in linked,
-        )
-        for name in [*linked, *apart]
-    ]
+    found = []
+    for name in [*linked, *apart]:
+        head, tail, following = (content[f"{kind} {name}"] for kind in ("head", "tail", "next"))
+        cells = [Cell.read(content[f"cell {name} {index}"]) for index in range(ring)]
+        found.append(Segment(name, int(head), Tail.read(tail), following, cells, name in linked))
+    return found
 
 
 # ---- Actors ---------------------------------------------------------------------------------------
@@ -161,11 +78,11 @@ def segments_of(session: Session, names: Sequence[str], ring: int, ends: Sequenc
 
 def sentences(parts: Iterable[model.Part | None]) -> Iterator[model.Sentence]:
     """The sentences of a row, its conditions first in each."""
-    for it in parts:
-        if isinstance(it, model.Sentence):
-            yield it
-        elif it:
-            yield from sentences([*it.conditions, it.then, it.other])
+    for part in parts:
+        if isinstance(part, model.Sentence):
+            yield part
+        elif part:
+            yield from sentences([*part.conditions, part.then, part.other])
 
 
 def read_words(step: model.Step) -> list[str]:
@@ -180,16 +97,16 @@ def read_words(step: model.Step) -> list[str]:
     return [word for word in WORDS if word in reads - sets]
 
 
-def next_of(made: str, record: str) -> Step | Refusal:
-    """A next step by the replies to its line and to `step K`, or why it can't be made."""
-    return Step.read(record) if is_made(made) else Refusal.read(made)
+def trials_of(actors: Iterable[int], live: int) -> list[str]:
+    """What is asked for the next step of each actor, where so many steps are live: it is made and undone again."""
+    number = live + 1
+    return [line for actor in actors for line in (f"go {actor}", f"step {number}", f"undo {number}")]
 
 
-def next_steps(session: Session, actors: Sequence[int]) -> dict[int, Step | Refusal]:
-    """The next step of each actor, or why there is none."""
-    number = session.live + 1
-    replies = session.ask([line for actor in actors for line in (f"go {actor}", f"step {number}", f"undo {number}")])
-    return dict(zip(actors, map(next_of, replies[::3], replies[1::3])))
+def tried_by(actors: Iterable[int], replies: Sequence[str]) -> dict[int, Step | Refusal]:
+    """The next step of each actor by these replies, or why there is none."""
+    pairs = zip(replies[::3], replies[1::3])
+    return dict(zip(actors, (Step.read(step) if is_made(made) else Refusal.read(made) for made, step in pairs)))
 
 
 def chip_of(number: int, actor: Actor, tried: Step | Refusal, page: Code, rows: dict[str, model.Step]) -> Chip:
@@ -214,11 +131,8 @@ def chips_of(session: Session, actors: dict[int, Actor]) -> list[Chip]:
     busy = [number for number, actor in actors.items() if not actor.is_idle()]
     text = model.PAGE.read_text(encoding="utf-8")
     page, (rows, _) = model.lines_of(text), model.read(text)
-    tried = next_steps(session, busy)
+    tried = tried_by(busy, session.ask(trials_of(busy, session.live)))
     return [chip_of(number, actors[number], tried[number], page, rows) for number in busy]
-
-
-# ---- The last step --------------------------------------------------------------------------------
 
 
 def last_of(session: Session) -> Last | None:
@@ -253,17 +167,16 @@ def moment_of(arguments: argparse.Namespace) -> tuple[Moment, str]:
     if line and count < line:
         raise Fault(f"the {kind_of(arguments)} has {count} lines: --line names one of them")
     actors = actors_of(session)
-    ends = contents_of(session, ["qhead", "qtail"])
+    idle = [number for number, actor in actors.items() if actor.is_idle()]
     array = contents_of(session, ["ahead", "atail", *(f"acell {slot}" for slot in range(SLOTS))])
+    ends = [*contents_of(session, ["qhead", "qtail"]).values()]
     names = names_of(session, actors)
     chips, last = chips_of(session, actors), last_of(session)
     places = [*(chip.place for chip in chips if chip.place), *(last.places() if last else [])]
-    near = {*ends.values(), *(Place.read(place).segment for place in places)}
-    title, caption = titles_of(arguments, session)
+    near = {*ends, *(Place.read(place).segment for place in places)}
     moment = Moment(
-        title, caption, session.world(), ends["qhead"], ends["qtail"],
-        segments_of(session, names, session.ring, [*ends.values()]), array, chips,
-        [number for number, actor in actors.items() if actor.is_idle()], last, near,
+        *titles_of(arguments, session), session.world(), ends[0], ends[1],
+        segments_of(session, names, session.ring, ends), array, chips, idle, last, near,
         session.viewers[-1] if session.viewers else 0,
     )
     return moment, session.refused
@@ -274,17 +187,16 @@ def moment_of(arguments: argparse.Namespace) -> tuple[Moment, str]:
 
 def parser() -> argparse.ArgumentParser:
     """The command line."""
-    it = run_parser(__doc__, "session.script --line 7 -o moment.svg")
+    parser = run_parser(__doc__, "session.script --line 7 -o moment.svg")
     line = "the moment after line N, in place of the last one"
-    it.add_argument("--line", dest="lines", metavar="N", type=number_above_0, help=line)
-    return it
+    parser.add_argument("--line", dest="lines", metavar="N", type=number_above_0, help=line)
+    return parser
 
 
 def drawn_of(arguments: argparse.Namespace) -> tuple[str, str]:
     """The moment that is asked for as SVG, and what to say of refused lines."""
     moment, refused = moment_of(arguments)
-    said = moment.last.sentence() if moment.last else "no step yet"
-    return draw(moment, said), refused
+    return draw(moment), refused
 
 
 def main(words: Sequence[str] | None = None) -> int:

@@ -1,13 +1,9 @@
 """Draws a run as a picture: who touched which place, in which order.
 
-    python3 tools/picture.py (SCRIPT | --history FILE) [-o OUT.svg] [--undo K | --roll K] [--free]
-        [--from A] [--to B] [--places PLACE,..] [--actor A,..] [--lines N] [--actors A] [--ring R]
-        [--trace FILE] [--refused] [--program P]
+    python3 tools/picture.py session.script --undo 8 -o run.svg
 
-SCRIPT, or its first N lines, is run by the built program, over the fresh world, or with `--trace`
-over that trace; `-` is standard input, and without `-o`, or with `-o -`, the picture goes to
-standard output. What is drawn is what the script leaves: the live steps, and pale below them the
-undone ones in the order of `redo`.
+SCRIPT, or its first N lines, is run by the built program. What is drawn is what the script leaves: the
+live steps, and pale below them the undone ones in the order of `redo`.
 
 An actor and a place are drawn alike: each is a lane from top to bottom. A step is a row from its
 actor's lane to the lanes of its place. A filled dot is a write, with what is there now; a hollow
@@ -18,35 +14,21 @@ A shade along an actor's lane is a call, from its first step to its reply. Segme
 order of their links at the run's end, and last, in broken frames, those that were never linked.
 
 `--undo K` shows what the line `undo K` is answered: if it is refused, a bar runs along the lane
-that step K shares with the step that is named; if not, the row is framed. `--roll K` shades the
-rows that the rollback takes. `--free` frames the number of each live step that could be undone
-alone now.
-
-`--from` and `--to` draw the run in part, from step A to step B; an actor that is in a call has its
-lane there though it makes no step. `--places` draws only steps at one of these places, such as
-`tail 0.0,cell 0.0 1`, and `--actor` those of these actors; with both, a step of either kind. Each
-may be given more than once. Steps keep their numbers, and a break stands where some are left out.
-At most 200 rows are drawn.
-
-`--history` draws what several viewers did, by the calls that `lcrqdb view FILE.. --history` writes
-(`history.py`). Beside each step stands the mark of the viewer whose line made it, whoever undid it or
-made it again, and the legend names the marks.
-
-Where a line is refused that makes a step or is no command, as when a `--ring` is forgotten, nothing
-is drawn and the status is 1, unless `--refused` is given.
+that step K shares with the step that is named; if not, the row is framed. In a part of a run an actor
+that is in a call has its lane though it makes no step. Steps keep their numbers, and a break stands where
+some are left out. Of a history each step has the mark of the viewer whose line made it, whoever undid it
+or made it again.
 
 Each fact is a reply of the program to a line of a script: this is a client of its text interface.
-The same input gives the same bytes. Only Python's standard library is used.
+The same input gives the same bytes.
 """
 
 import argparse
-import itertools
 import json
 from collections import Counter
 from collections.abc import Collection, Sequence
 from dataclasses import dataclass
 from pathlib import Path
-from typing import TypedDict
 
 from lcrq_tools.draw.askers import viewers_after
 from lcrq_tools.draw.drawing import draw
@@ -54,19 +36,21 @@ from lcrq_tools.draw.figure import Session, in_order, kind_of, script_name, writ
 from lcrq_tools.draw.lanes import Call, Picture, Row, actor_lane, actor_of, lanes_at, lanes_of, order_of, row_of
 from lcrq_tools.faults import Fault
 from lcrq_tools.options import number_above_0, run_parser
-from lcrq_tools.program import Broken, Driven
 from lcrq_tools.records import Actor, Counts, Place, Refusal, Step, content_of, read_reply, stand_of
 
 MOST_ROWS = 200
+
+# The start of a trace, as far as it is read here: its `actors`, and its `segments` by their makers. A fresh world
+# has neither.
+Start = dict[str, list[list[object]]]
 
 # ---- Steps ----------------------------------------------------------------------------------------
 
 
 def records_of(session: Session) -> list[str]:
     """The replies to `step K` of each live step, and then of each undone one."""
-    count = session.live + session.undone
-    forward = [f"forward {session.undone}"] if session.undone else []
-    return session.ask([*forward, *(f"step {number}" for number in range(1, count + 1))])[-count:]
+    steps = [f"step {number}" for number in range(1, session.live + session.undone + 1)]
+    return session.ask_parts([[f"forward {session.undone}"], steps])[1]
 
 
 def rows_of(session: Session) -> list[Row]:
@@ -99,9 +83,8 @@ class Choice:
 
     def words(self) -> str:
         """Where the steps are or whose they are, in words; nothing where all are drawn."""
-        places = [f"at {' or '.join(map(str, self.places))}"] if self.places else []
-        actors = [f"of actor {' or '.join(map(str, self.actors))}"] if self.actors else []
-        return " or ".join([*places, *actors])
+        kinds: list[tuple[str, Sequence[object]]] = [("at", self.places), ("of actor", self.actors)]
+        return " or ".join(f"{word} {' or '.join(map(str, chosen))}" for word, chosen in kinds if chosen)
 
     def rows_of(self, rows: list[Row], asked: int | None) -> list[Row]:
         """The rows that are drawn, among which that of the step that is asked about has to be."""
@@ -151,8 +134,8 @@ def places_of(arguments: argparse.Namespace, session: Session) -> list[Place]:
     for word in words:
         if not (word.isascii() and word.isprintable()):
             raise Fault(f"--places {word!a}: no place has such a name")
-    forward = [f"forward {session.undone}"] if words else []
-    for word, reply in zip(words, session.ask([*forward, *(f"show {word}" for word in words)])[1:]):
+    shows = [f"show {word}" for word in words]
+    for word, reply in zip(words, session.ask_parts([[f"forward {session.undone}"], shows])[1] if shows else []):
         if not content_of(reply):
             raise Fault(f"--places {word!a}: {reply}")
     return [Place.read(word) for word in words]
@@ -182,23 +165,6 @@ def actors_drawn(rows: list[Row], choice: Choice, stands: dict[str, str]) -> lis
 # ---- What the program replies along the run --------------------------------------------------------
 
 
-@dataclass
-class Replies:
-    """What the program replies along a run."""
-
-    start: dict[str, str]  # what is on each lane before the first step, and where each actor is
-    rows: list[list[str]]  # the replies about each row
-    nexts: dict[str, str]  # which segment follows each one at the end
-    ends: list[str]  # the segments that the queue's two ends name there
-
-
-class Start(TypedDict, total=False):
-    """The start of a trace, as far as it is read here; a fresh world has neither."""
-
-    actors: list[object]
-    segments: list[list[object]]  # by their makers
-
-
 def trace_of(arguments: argparse.Namespace) -> Start:
     """The start of the trace over which the script is run; nothing over a fresh world."""
     name: str | None = arguments.trace
@@ -210,40 +176,28 @@ def trace_of(arguments: argparse.Namespace) -> Start:
 
 def segments_of(rows: list[Row], start: Start) -> list[str]:
     """The names of the segments of a run: the root, those of the trace, and those of its steps."""
-    given = [f"{maker}.{at}" for maker, made in enumerate(start.get("segments", [])) for at in range(len(made))]
+    given = [f"{maker}.{index}" for maker, made in enumerate(start.get("segments", [])) for index in range(len(made))]
     return list(dict.fromkeys(["0.0", *given, *filter(None, (row.step.place.segment for row in rows))]))
 
 
-def questions_of(row: Row, lanes: Collection[str], before: int) -> list[str]:
-    """What is asked about a step, before it is made and after it, from behind this step on."""
-    shows = [f"show {lane}" for lane in lanes_of(row.step.place, lanes)]
-    return [f"forward {row.step.number - before - 1}", actor_lane(row.actor()), *shows, "forward 1", *shows]
-
-
-def ask_along(session: Session, first: int, rows: list[Row], lanes: list[str], names: list[str]) -> Replies:
-    """Goes along the run from this step to the end, and asks about its rows and its lanes of
-    memory."""
+def ask_along(
+    session: Session, first: int, rows: list[Row], lanes: list[str], names: list[str]
+) -> tuple[dict[str, str], list[str], list[str]]:
+    """Goes along the run from this step to the end, and asks about its rows and its lanes of memory. Returns
+    what is on each lane before the first step, and where each actor is; the linked segments, and the others."""
     actors = [actor_lane(actor) for actor in range(1, session.actors + 1)]
     before = [first - 1, *(row.step.number for row in rows)]
-    parts = [
+    _, start, *about, _, end = session.ask_parts([
         session.moved_to(first),
         [*actors, *(f"show {lane}" for lane in lanes)],
-        *(questions_of(row, lanes, at) for row, at in zip(rows, before)),
+        *(row.questions(lanes, number) for row, number in zip(rows, before)),
         [f"forward {session.live + session.undone - before[-1]}"],
         [f"show {place}" for place in ("qhead", "qtail", *(f"next {name}" for name in names))],
-    ]
-    replies = iter(session.ask([line for part in parts for line in part]))
-    _, start, *about, _, end = [list(itertools.islice(replies, len(part))) for part in parts]
+    ])
+    for row, replies in zip(rows, about):
+        row.take(lanes, replies)
     head, tail, *nexts = map(content_of, end)
-    stands = dict(zip([*actors, *lanes], map(stand_of, start)))
-    return Replies(stands, about, dict(zip(names, nexts)), [head, tail])
-
-
-def fill_row(row: Row, lanes: Collection[str], replies: list[str]) -> None:
-    """Puts what the program replied about a step into its row."""
-    touched = lanes_of(row.step.place, lanes)
-    shows = zip(touched, map(content_of, replies[2:]), map(content_of, replies[len(touched) + 3:]))
-    row.fill(Actor.read(replies[1]), shows)
+    return dict(zip([*actors, *lanes], map(stand_of, start))), *in_order(dict(zip(names, nexts)), [head, tail])
 
 
 def calls_of(rows: list[Row], stands: dict[str, str], lanes: Collection[str]) -> list[Call]:
@@ -263,16 +217,16 @@ def calls_of(rows: list[Row], stands: dict[str, str], lanes: Collection[str]) ->
 # ---- What is asked of it --------------------------------------------------------------------------
 
 
-def shared_lane(one: Row, other: Row) -> str:
+def shared_lane(row: Row, other: Row) -> str:
     """The lane on which two rows have dots of which one is filled: that of their actor, or the
     first of memory."""
-    if one.actor() == other.actor():
-        return actor_lane(one.actor())
-    dots = {dot.lane: dot for dot in one.dots}
+    if row.actor() == other.actor():
+        return actor_lane(row.actor())
+    kinds = {dot.lane: dot.kind for dot in row.dots}
     for dot in other.dots:
-        if dot.lane in dots and "wrote" in (dot.kind, dots[dot.lane].kind):
+        if dot.lane in kinds and "wrote" in (dot.kind, kinds[dot.lane]):
             return dot.lane
-    raise Fault(f"steps {one.step.number} and {other.step.number} share no lane")
+    raise Fault(f"steps {row.step.number} and {other.step.number} share no lane")
 
 
 def ask_undo(session: Session, picture: Picture, step: int) -> None:
@@ -280,17 +234,17 @@ def ask_undo(session: Session, picture: Picture, step: int) -> None:
     line = f"undo {step}"
     reply = read_reply(session.ask([line])[0])
     picture.asked = f"{line}: {reply}"
-    at_step = {row.step.number: at for at, row in enumerate(picture.rows)}
+    indexes = {row.step.number: index for index, row in enumerate(picture.rows)}
     if isinstance(reply, Counts):
-        picture.frame = at_step[step]
+        picture.frame = indexes[step]
     elif isinstance(reply, Refusal) and reply.name == "Depended":
         later = int(reply.data[0])
         if later > picture.last:
             raise Fault(f"{picture.asked}, which is after the last row: --to {later} has it")
-        if later not in at_step:
+        if later not in indexes:
             raise Fault(f"{picture.asked}, which is not drawn, since it is not {picture.chosen}")
-        ends = at_step[step], at_step[later]
-        picture.bar = (shared_lane(*(picture.rows[at] for at in ends)), *ends)
+        ends = indexes[step], indexes[later]
+        picture.bar = (shared_lane(*(picture.rows[index] for index in ends)), *ends)
     else:
         raise Fault(picture.asked)
 
@@ -304,7 +258,8 @@ def ask_roll(session: Session, picture: Picture, step: int, rows: list[Row]) -> 
         raise Fault(picture.asked)
     taken = reply.undone - session.undone
     asked = [f"step {number}" for number in range(reply.live + 1, session.live + 1)]
-    gone = Counter(Step.read(text).event.actor for text in session.ask([line, f"forward {taken}", *asked])[2:])
+    steps = map(Step.read, session.ask_parts([[line, f"forward {taken}"], asked])[1])
+    gone = Counter(step.event.actor for step in steps)
     for row in reversed(rows[: session.live]):
         row.goes = gone[row.actor()] > 0
         gone[row.actor()] -= 1
@@ -315,41 +270,30 @@ def ask_free(session: Session, picture: Picture) -> None:
     """Marks the live steps that could be undone alone now. Each is asked about, the last one first,
     and is made again where it was undone: it is then after all that are asked about later."""
     picture.shows_free = True
-    try:
-        with Driven(session.words) as driven:
-            for line in session.script.decode("latin-1").split("\n")[:-1]:
-                driven.ask(line)
-            for row in reversed([row for row in picture.rows if not row.is_undone]):
-                row.is_free = driven.ask(f"undo {row.step.number}")[0].startswith("at ")
-                if row.is_free:
-                    driven.ask("redo")
-    except (Broken, OSError) as fault:
-        raise Fault(f"the steps that are free can't be asked for: {fault}") from fault
+    with session.driven("the steps that are free") as driven:
+        for line in session.lines:
+            driven.ask(line)
+        for row in reversed([row for row in picture.rows if not row.is_undone]):
+            row.is_free = driven.ask(f"undo {row.step.number}")[0].startswith("at ")
+            if row.is_free:
+                driven.ask("redo")
 
 
 # ---- The picture ----------------------------------------------------------------------------------
 
 
-def start_name(first: int, start: Start) -> str:
-    """The name of the row with what is there before the first step; none over a fresh world."""
-    if first > 1:
-        return f"after {first - 1}"
-    return "start" if "actors" in start else ""
-
-
 def drawn_rows(session: Session, choice: Choice, all_rows: list[Row], rows: list[Row], start: Start) -> Picture:
     """The picture of these rows out of all, with nothing asked of it."""
-    name, memory = start_name(choice.first, start), places_drawn(rows, choice)
-    replies = ask_along(session, choice.first, rows, memory, segments_of(all_rows, start))
-    for row, about in zip(rows, replies.rows):
-        fill_row(row, memory, about)
-    actors = {lane: stand for lane, stand in replies.start.items() if actor_of(lane)}
-    linked, apart = in_order(replies.nexts, replies.ends)
+    name = f"after {choice.first - 1}" if choice.first > 1 else "start" if "actors" in start else ""
+    memory = places_drawn(rows, choice)
+    stands, linked, apart = ask_along(session, choice.first, rows, memory, segments_of(all_rows, start))
+    actors = {lane: stand for lane, stand in stands.items() if actor_of(lane)}
     lanes = [*actors_drawn(rows, choice, actors if name else {}), *memory]
     chain = [*linked, *apart]
     lanes.sort(key=lambda lane: order_of(lane, chain))
-    stands = {lane: replies.start[lane] for lane in lanes}
-    picture = Picture("", lanes, rows, stands, choice.first, choice.last, name, choice.words())
+    picture = Picture(
+        "", lanes, rows, {lane: stands[lane] for lane in lanes}, choice.first, choice.last, name, choice.words()
+    )
     picture.apart = {*apart} & {Place.read(lane).segment for lane in memory}
     picture.calls = calls_of(all_rows[choice.first - 1: choice.last], actors, lanes)
     return picture
@@ -393,19 +337,19 @@ def title_of(arguments: argparse.Namespace, session: Session, picture: Picture) 
 
 def parser() -> argparse.ArgumentParser:
     """The command line."""
-    it = run_parser(__doc__, "session.script --undo 8 -o run.svg")
-    asked = it.add_mutually_exclusive_group()
+    parser = run_parser(__doc__, "session.script --undo 8 -o run.svg")
+    asked = parser.add_mutually_exclusive_group()
     asked.add_argument("--undo", metavar="K", type=number_above_0, help="show what the line `undo K` is answered")
     asked.add_argument("--roll", metavar="K", type=number_above_0, help="shade the steps that `roll K` takes")
-    it.add_argument("--free", action="store_true", help="mark each live step that could be undone alone now")
-    it.add_argument("--from", dest="first", metavar="A", type=number_above_0, help="the first step that is drawn")
-    it.add_argument("--to", dest="last", metavar="B", type=number_above_0, help="the last step that is drawn")
+    parser.add_argument("--free", action="store_true", help="mark each live step that could be undone alone now")
+    parser.add_argument("--from", dest="first", metavar="A", type=number_above_0, help="the first step that is drawn")
+    parser.add_argument("--to", dest="last", metavar="B", type=number_above_0, help="the last step that is drawn")
     places = "draw steps at these places alone, as in `tail 0.0,cell 0.0 1`"
-    it.add_argument("--places", action="append", metavar="PLACE,..", help=places)
+    parser.add_argument("--places", action="append", metavar="PLACE,..", help=places)
     actors = "draw the steps of these actors alone; with --places those at its places too"
-    it.add_argument("--actor", dest="of_actors", action="append", metavar="A,..", help=actors)
-    it.add_argument("--lines", metavar="N", type=number_above_0, help="run the first N lines of the script alone")
-    return it
+    parser.add_argument("--actor", dest="of_actors", action="append", metavar="A,..", help=actors)
+    parser.add_argument("--lines", metavar="N", type=number_above_0, help="run the first N lines of the script alone")
+    return parser
 
 
 def drawn_of(arguments: argparse.Namespace) -> tuple[str, str]:

@@ -1,12 +1,13 @@
-"""The marks of viewers: what stands beside a line or a step that a viewer asked.
+"""Pictures, moments and pages take from here the marks of viewers, beside the lines and steps that they asked.
 
 A mark is `V` with the viewer's number in a frame. There are eight frames, one for each of the first
 eight viewers; the next eight have them dark, and so on in turn. So marks differ without any colour.
 """
 
 from collections.abc import Collection
+from xml.etree.ElementTree import Element
 
-from lcrq_tools.draw.figure import DARK, GROUND, SMALL, element, number, width_of, words_at
+from lcrq_tools.draw.figure import DARK, GROUND, SMALL, element, group, number, width_of, words_at
 
 # Sizes, in pixels: half of how high a frame is, how far its ends are beyond its words, the room around it.
 HALF, END, AROUND = 7.0, 5.0, 1.0
@@ -62,12 +63,9 @@ def is_dark(viewer: int) -> bool:
     return (viewer - 1) // len(FRAMES) % 2 == 1
 
 
-def mark_at(viewer: int, x: float, y: float, dark: str = DARK, light: str = GROUND) -> list[str]:
+def mark_at(viewer: int, x: float, y: float, dark: str = DARK, light: str = GROUND) -> Element:
     """A viewer's mark around this point, in these two colours."""
     words, ground = (light, dark) if is_dark(viewer) else (dark, light)
-    return [
-        f'<g class="viewer" data-viewer="{viewer}">',
-        element("path", d=outline(viewer, x, y), fill=ground, stroke=dark, stroke_width=1.2),
-        words_at(x, y + 3.6, label_of(viewer), SMALL, words, "middle", True),
-        "</g>",
-    ]
+    frame = element("path", d=outline(viewer, x, y), fill=ground, stroke=dark, stroke_width=1.2)
+    label = words_at(x, y + 3.6, label_of(viewer), SMALL, words, "middle", True)
+    return group("viewer", [frame, label], data_viewer=viewer)

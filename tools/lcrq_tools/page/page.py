@@ -1,30 +1,19 @@
 """Makes a run a page: one HTML file on which a reader goes along the run, line by line.
 
-    python3 tools/page.py (SCRIPT | --history FILE) -o OUT.html [--lines A:B] [--actors A] [--ring R]
-        [--trace FILE] [--refused] [--program P]
+    python3 tools/page.py session.script -o run.html
 
-SCRIPT is run by the built program, over the fresh world, or with `--trace` over that trace; `-` is
-standard input, and without `-o`, or with `-o -`, the page goes to standard output. The file needs
-nothing else: no network and no program.
+SCRIPT is run by the built program. The file needs nothing else: no network and no program.
 
 Of each line the page shows the reply, why it is refused if it is, the queue with the place that each
 actor's next step would touch, the steps as lanes with a border between live and undone ones, and
 the pseudo-code of docs/MODEL.md with the actors at their lines. The right and the left arrow go a
 line on and back, Home and End to the ends; a slider and a click on a line do too. `#line=14` in the
 address leads to a moment. `copy` gives the command that shows the same by the program. Printed it
-is a handout: lines with replies, and the queue at each bookmark, or at the end.
-
-`--history` makes a page of what several viewers did, by the calls that `lcrqdb view FILE.. --history`
-writes (`history.py`). Each line and each step has the mark of the viewer who asked it, and above them
-the current line's viewer is named.
-
-A page takes 400 lines at most: `--lines A:B` makes one of the lines A to B of a longer script.
-
-Where a line is refused that makes a step or is no command, as when a `--ring` is forgotten, nothing
-is made and the status is 1, unless `--refused` is given.
+is a handout: lines with replies, and the queue at each bookmark, or at the end. On the page of a history
+each line and each step has the mark of the viewer who asked it.
 
 Each fact is a reply of the program to a line of a script: this is a client of its text interface.
-The same input gives the same bytes. Only Python's standard library is used.
+The same input gives the same bytes.
 """
 
 import argparse
@@ -58,8 +47,8 @@ def above_of(states: list[State], rows: Rows) -> int:
     and come before all others."""
     if not states[0].line and len(rows.made) <= MOST_LINES:
         return 0
-    lists = [it.rows[: it.live] for it in states]
-    return next((at for at, them in enumerate(zip(*lists)) if len({*them}) > 1), min(map(len, lists)))
+    lists = [state.rows[: state.live] for state in states]
+    return next((count for count, same in enumerate(zip(*lists)) if len({*same}) > 1), min(map(len, lists)))
 
 
 def shown_rows(states: list[State], rows: Rows, above: int) -> list[int]:
@@ -74,9 +63,8 @@ def shown_rows(states: list[State], rows: Rows, above: int) -> list[int]:
 def start_of(asked: Asked, lanes: list[str], above: int) -> dict[str, str]:
     """What is on each lane before the first row that is shown."""
     session = asked.at(asked.first)
-    moves = session.moved_to(above + 1)
     lines = [lane if actor_of(lane) else f"show {lane}" for lane in lanes]
-    return dict(zip(lanes, map(stand_of, session.ask([*moves, *lines])[len(moves):])))
+    return dict(zip(lanes, map(stand_of, session.ask_parts([session.moved_to(above + 1), lines])[1])))
 
 
 # ---- The page -------------------------------------------------------------------------------------
@@ -97,24 +85,21 @@ def command_of(arguments: argparse.Namespace) -> list[str]:
     return [f"grep '^[0-9]' {name} | head -n ", f" | cut -d ' ' -f 2- | {shlex.join(words)}"]
 
 
-def heading_of(it: State) -> str:
+def heading_of(state: State) -> str:
     """What stands above a moment of a handout."""
-    return f"After line {it.line}, {it.asked()}: {it.reply}" if it.line else "Before the first line"
+    return f"After line {state.line}, {state.asked()}: {state.reply}" if state.line else "Before the first line"
 
 
 def handout_of(states: list[State]) -> list[tuple[int, str]]:
     """The moments that a handout shows: those of bookmarks, or the last one."""
-    marked = [at for at, it in enumerate(states) if it.reply.startswith("marked ")]
-    return [(at, heading_of(states[at])) for at in marked or [len(states) - 1]]
-
-
-def compact(value: object) -> str:
-    """A value as JSON without spaces."""
-    return json.dumps(value, separators=(",", ":"))
+    headings = [*enumerate(map(heading_of, states))]
+    marked = [heading for heading, state in zip(headings, states) if state.reply.startswith("marked ")]
+    return marked or headings[-1:]
 
 
 def data_of(fields: dict[str, object], moments: list[dict[str, object]]) -> str:
-    """The page's data as JSON, a moment a line."""
+    """The page's data as JSON without spaces, a moment a line."""
+    compact = json.JSONEncoder(separators=(",", ":")).encode
     lines = ",\n".join(map(compact, moments))
     text = compact(fields).removesuffix("}") + f',"moments":[\n{lines}\n]}}'
     return text.replace("<", "\\u003c")
@@ -136,16 +121,15 @@ def page_of(arguments: argparse.Namespace) -> tuple[str, str]:
     count = len(asked.lines) - asked.first
     if count > MOST_LINES:
         raise Fault(f"{count} lines are too many for a page: --lines A:B takes {MOST_LINES} of them, as 1:{MOST_LINES}")
-    states = states_of(asked)
-    return made_of(arguments, asked, states, Rows(states)), asked.session.refused
+    return made_of(arguments, asked, states_of(asked)), asked.session.refused
 
 
 def drawing_of(arguments: argparse.Namespace, asked: Asked, states: list[State], rows: Rows, above: int) -> Lanes:
     """The drawing of the steps, of which so many stand above the first row."""
     drawn, lanes = filled_rows(asked, states, rows, shown_rows(states, rows, above))
     name = f"after {above}" if above else "start" if arguments.trace else ""
-    most = max(len(it.rows) for it in states) - above
-    marks = Marks({*(it.viewer for it in states), *(row.viewer for row in drawn.values())} - {0})
+    most = max(len(state.rows) for state in states) - above
+    marks = Marks({*(state.viewer for state in states), *(row.viewer for row in drawn.values())} - {0})
     return Lanes(drawn, lanes, start_of(asked, lanes, above) if name else {}, name, most, marks)
 
 
@@ -156,21 +140,21 @@ def fields_of(arguments: argparse.Namespace, states: list[State], above: int, fi
         "border": page_lanes.BORDER, "command": command_of(arguments), "handout": handout_of(states),
         "rows": figure.dots(),
     }
-    return fields | ({"viewers": [it.viewer for it in states]} if figure.marks.viewers else {})
+    return fields | ({"viewers": [state.viewer for state in states]} if figure.marks.viewers else {})
 
 
-def made_of(arguments: argparse.Namespace, asked: Asked, states: list[State], rows: Rows) -> str:
+def made_of(arguments: argparse.Namespace, asked: Asked, states: list[State]) -> str:
     """The page of these moments."""
-    text = model.PAGE.read_text(encoding="utf-8")
+    text, rows = model.PAGE.read_text(encoding="utf-8"), Rows(states)
     code, (steps, _) = model.lines_of(text), model.read(text)
-    whys, chips = page_moments.whys_of(states), [page_moments.chips_of(it, code, steps) for it in states]
+    whys, chips = page_moments.whys_of(states), [page_moments.chips_of(state, code, steps) for state in states]
     sentences = page_moments.sentences_of(states, whys)
     above = above_of(states, rows)
     figure = drawing_of(arguments, asked, states, rows, above)
     marks = figure.marks
     moments = page_moments.differences_of(page_moments.whole_states(states, chips, sentences))
-    lines = (page_parts.line_item(it, why, marks.in_line(it.viewer)) for it, why in zip(states, whys))
-    return filled(
+    lines = (page_parts.line_item(state, why, marks.in_line(state.viewer)) for state, why in zip(states, whys))
+    return Template(text_in("page.html")).substitute(
         title=escape(f"{script_name(arguments)}, {asked.session.world()}"),
         style="\n".join([page_parts.colours(), page_parts.room(states, chips), text_in("page.css"), *marks.style()]),
         script="\n".join([text_in("page.js"), *marks.script()]),
@@ -193,29 +177,24 @@ def text_in(name: str) -> str:
     return (PARTS / name).read_text(encoding="utf-8")
 
 
-def filled(**parts: object) -> str:
-    """The template with these parts."""
-    return Template(text_in("page.html")).substitute(parts)
-
-
 # ---- The command line -----------------------------------------------------------------------------
 
 
 def part_of(text: str) -> tuple[int, int]:
     """The first and the last line of a part of a script."""
     ends = text.split(":")
-    if len(ends) != 2 or not all(it.isdecimal() for it in ends) or not 1 <= int(ends[0]) <= int(ends[1]):
+    if len(ends) != 2 or not all(map(str.isdecimal, ends)) or not 1 <= int(ends[0]) <= int(ends[1]):
         raise argparse.ArgumentTypeError(f"{text} is not A:B, two numbers of lines")
     return int(ends[0]), int(ends[1])
 
 
 def parser() -> argparse.ArgumentParser:
     """The command line."""
-    it = run_parser(__doc__, "session.script -o run.html", "OUT.html")
+    parser = run_parser(__doc__, "session.script -o run.html", "OUT.html")
     options = "[-o OUT.html] [--lines A:B] [--actors A] [--ring R] [--trace FILE] [--refused] [--program P]"
-    it.usage = f"%(prog)s (SCRIPT | --history FILE) {options}"
-    it.add_argument("--lines", dest="part", metavar="A:B", type=part_of, help="the lines A to B in place of all")
-    return it
+    parser.usage = f"%(prog)s (SCRIPT | --history FILE) {options}"
+    parser.add_argument("--lines", dest="part", metavar="A:B", type=part_of, help="the lines A to B in place of all")
+    return parser
 
 
 def main(words: list[str] | None = None) -> int:

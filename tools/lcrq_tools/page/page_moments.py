@@ -1,23 +1,20 @@
-"""The moments of a run as the data of its page: whole states, their differences, and a sentence each.
+"""Makes the moments of a run the data of its page for `page.py`: whole states, their differences, and a sentence each.
 
-A state has the content of each place, what each actor is about to do, the rows of the live and then
-the undone steps, the segments in their order, what the last live step wrote, the rows that a refused
-`undo` is about, and the moment in words. `page.js` makes states of differences again.
+`page.js` makes states of the differences again.
 """
 
 import re
 from collections.abc import Mapping
-from typing import TypedDict
 
 from lcrq_tools import manual, model
 from lcrq_tools.draw import moment
-from lcrq_tools.page.run_states import State
+from lcrq_tools.draw.boxes import Chip, Last
+from lcrq_tools.page.run_states import State, common_of
 from lcrq_tools.records import Refusal, is_made, read_reply
 
 MOST_NAMED = 4  # steps or places in one sentence
 
-
-# ---- Actors and steps -----------------------------------------------------------------------------
+Whole = dict[str, object]  # a moment as a page has it, or what differs from the one before
 
 
 def chips_of(state: State, page: moment.Code, rows: dict[str, model.Step]) -> dict[int, dict[str, str] | None]:
@@ -26,16 +23,11 @@ def chips_of(state: State, page: moment.Code, rows: dict[str, model.Step]) -> di
     return dict.fromkeys(state.actors) | {chip.actor: about(chip) for chip in chips}
 
 
-def about(chip: moment.Chip) -> dict[str, str]:
+def about(chip: Chip) -> dict[str, str]:
     """What a page shows of an actor in a call."""
     words = f"its words: {', '.join(chip.words)}" if chip.words else ""
     note = f"touches {chip.place}" if chip.place else chip.note
     return {"point": chip.point, "call": chip.call, "words": words, "note": note, "place": chip.place}
-
-
-def written_by_last(state: State) -> list[str]:
-    """The places that the last live step wrote."""
-    return [str(place) for place in state.steps[state.live - 1].wrote()] if state.live else []
 
 
 def named_rows(state: State) -> list[int]:
@@ -44,9 +36,6 @@ def named_rows(state: State) -> list[int]:
     if not asked or not isinstance(refused, Refusal) or refused.name != "Depended":
         return []
     return [state.rows[int(number) - 1] for number in (asked[1], refused.data[0])]
-
-
-# ---- In words -------------------------------------------------------------------------------------
 
 
 def listed(parts: list[str]) -> str:
@@ -59,10 +48,10 @@ def moves_of(before: State, after: State) -> str:
     """Which steps a line undid and which it made again, in words."""
     was, now = before.rows[: before.live], after.rows[: after.live]
     events = dict(zip([*before.rows, *after.rows], (step.event for step in (*before.steps, *after.steps))))
-    undone = [f"step {at}, {events[row]}" for at, row in enumerate(was, 1) if row not in now]
-    made = [f"{events[row]}, step {at} now" for at, row in enumerate(now, 1) if row not in was]
+    undone = [f"step {number}, {events[row]}" for number, row in enumerate(was, 1) if row not in now]
+    made = [f"{events[row]}, step {number} now" for number, row in enumerate(now, 1) if row not in was]
     parts = [("Undone: ", undone), ("Made again: ", made)]
-    return " ".join(f"{head}{listed(them)}." for head, them in parts if them)
+    return " ".join(f"{head}{listed(steps)}." for head, steps in parts if steps)
 
 
 def contents_of(before: State, after: State) -> str:
@@ -79,7 +68,7 @@ def what_changed(before: State, after: State, why: str) -> str:
         return f"Nothing changes. {why}"
     if is_made(after.reply):
         step = after.steps[after.live - 1]
-        said = moment.Last(step, before.actors[step.event.actor].point).sentence()
+        said = Last(step, before.actors[step.event.actor].point).sentence()
         return f"{said[0].upper()}{said[1:]}."
     moved = moves_of(before, after)
     return f"{moved} {contents_of(before, after)}".strip() if moved else "Nothing changes."
@@ -92,7 +81,10 @@ def sentences_of(states: list[State], whys: list[str]) -> list[str]:
     pairs = zip(states, states[1:], whys[1:])
     return [
         f"{begins}: {first.live} live steps, {first.undone} undone.",
-        *(f"Line {it.line}, {it.asked()}: {it.reply}. {what_changed(before, it, why)}" for before, it, why in pairs),
+        *(
+            f"Line {state.line}, {state.asked()}: {state.reply}. {what_changed(before, state, why)}"
+            for before, state, why in pairs
+        ),
     ]
 
 
@@ -103,66 +95,47 @@ def whys_of(states: list[State]) -> list[str]:
     return [refusals[str(reply.number)] if isinstance(reply, Refusal) else "" for reply in replies]
 
 
-# ---- States and their differences -----------------------------------------------------------------
-
-
-class Whole(TypedDict, total=False):
-    """A moment as a page has it."""
-
-    places: dict[str, str]
-    actors: dict[str, dict[str, str] | None]
-    rows: list[int]
-    live: int
-    linked: list[str | int]
-    apart: list[str]
-    written: list[str]
-    last: int | None
-    named: list[int]
-    said: str
-
-
 def whole_states(
     states: list[State], chips: list[dict[int, dict[str, str] | None]], sentences: list[str]
 ) -> list[Whole]:
     """The moments as a page has them."""
     return [
         {
-            "places": it.places,
+            "places": state.places,
             "actors": {str(actor): chip for actor, chip in about.items()},
-            "rows": it.rows,
-            "live": it.live,
-            "linked": it.linked,
-            "apart": it.apart,
-            "written": written_by_last(it),
-            "last": it.rows[it.live - 1] if it.live else None,
-            "named": named_rows(it),
+            "rows": state.rows,
+            "live": state.live,
+            "linked": state.linked,
+            "apart": state.apart,
+            "written": [str(place) for place in state.steps[state.live - 1].wrote()] if state.live else [],
+            "last": state.rows[state.live - 1] if state.live else None,
+            "named": named_rows(state),
             "said": said,
         }
-        for it, about, said in zip(states, chips, sentences)
+        for state, about, said in zip(states, chips, sentences)
     ]
 
 
-def changed_of(old: Mapping[str, object], new: Mapping[str, object]) -> dict[str, object]:
+def changed_of(old: Mapping[str, object], new: Mapping[str, object]) -> Whole:
     """What differs in a part of a state; None stands for what isn't there any more."""
     gone: dict[str, object] = {name: None for name in old if name not in new}
-    return gone | {name: it for name, it in new.items() if name not in old or old[name] != it}
+    return gone | {name: value for name, value in new.items() if name not in old or old[name] != value}
 
 
-def changes_between(before: Whole, after: Whole) -> dict[str, object]:
-    """What differs between two states."""
+def changes_between(before: Whole, after: Whole) -> Whole:
+    """What differs between two states. A dictionary has its own differences; of the rows so many are kept."""
     changes = changed_of(before, after)
-    if "places" in changes:
-        changes["places"] = changed_of(before.get("places", {}), after["places"])
-    if "actors" in changes:
-        changes["actors"] = changed_of(before.get("actors", {}), after["actors"])
-    if "rows" in changes:
-        old, new = before.get("rows", []), after["rows"]
-        kept = next((at for at, (one, other) in enumerate(zip(old, new)) if one != other), min(len(old), len(new)))
-        changes["rows"] = [kept, new[kept:]]
+    for name, value in changes.items():
+        old = before.get(name)
+        if isinstance(value, dict):
+            changes[name] = changed_of(old if isinstance(old, dict) else {}, value)
+        elif name == "rows" and isinstance(value, list):
+            kept = common_of(old, value) if isinstance(old, list) else 0
+            changes[name] = [kept, value[kept:]]
     return changes
 
 
-def differences_of(states: list[Whole]) -> list[dict[str, object]]:
+def differences_of(states: list[Whole]) -> list[Whole]:
     """What each state changes of the one before it; the first one changes nothing."""
     befores: list[Whole] = [{}, *states]
     return [changes_between(before, after) for before, after in zip(befores, states)]

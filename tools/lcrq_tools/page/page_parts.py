@@ -1,13 +1,16 @@
-"""The parts of a page of a run as HTML: `tools/page.py` puts them together.
+"""Makes the parts of a page of a run as HTML, which `page.py` puts together.
 
 What changes from line to line is filled in by `page.js`. Whatever changes its size has
 a hidden copy of its largest text beside it, so that the page keeps its size along the whole run.
 """
 
+from collections import Counter
+from collections.abc import Iterable, Sequence
 from html import escape
 
 from lcrq_tools import model
 from lcrq_tools.draw.figure import ACTORS, BAND, DARK, GREY, GROUND, LANE, width_of
+from lcrq_tools.draw.moment import Code
 from lcrq_tools.page.run_states import State, touched_by
 from lcrq_tools.records import Cell, Place
 
@@ -43,28 +46,35 @@ def variables(names: dict[str, str]) -> str:
 def colours() -> str:
     """The colours as CSS: those of the page, those of actors, and those of drawings, which have their
     own by day."""
-    day = [f":root {{ {variables({name: it[0] for name, it in COLOURS.items()})} }}"]
-    night = [f":root {{ {variables({name: it[1] for name, it in COLOURS.items()})} }}"]
-    drawn = {DARK: "text", GREY: "soft", BAND: "band", GROUND: "ground", LANE: "line"}
-    names = {DARK: "text", GREY: "soft"}
+    themes = []
+    for theme, actors in enumerate((ACTORS_BY_DAY, IN_THE_DARK)):
+        rules = [f":root {{ {variables({name: pair[theme] for name, pair in COLOURS.items()})} }}"]
+        for number, values in enumerate(actors, 1):
+            rules.append(f".a{number} {{ {variables(dict(zip(('colour', 'dark', 'tint'), values)))} }}")
+        themes.append("\n".join(rules))
     others = []
-    keys = ("colour", "dark", "tint")
-    for at, (by_day, in_the_dark) in enumerate(zip(ACTORS_BY_DAY, IN_THE_DARK), 1):
-        colour, dark, _ = by_day
-        day.append(f".a{at} {{ {variables(dict(zip(keys, by_day)))} }}")
-        night.append(f".a{at} {{ {variables(dict(zip(keys, in_the_dark)))} }}")
-        for kind in ("fill", "stroke"):
-            others.append(f'.lanes .a{at} [{kind}="{colour}"] {{ {kind}: var(--colour); }}')
-        others.append(f'.lanes .a{at} text[fill="{dark}"] {{ fill: var(--dark); }}')
-    for colour, name in (drawn | names).items():
-        others += [f'.lanes [{kind}="{colour}"] {{ {kind}: var(--{name}); }}' for kind in ("fill", "stroke")]
-    dark = "@media screen and (prefers-color-scheme: dark) {\n" + "\n".join(night) + "\n}"
-    return "\n".join([*day, *others, dark])
+    for number, (colour, dark) in enumerate(ACTORS, 1):
+        others += painted(f".a{number} ", colour, "colour")
+        others.append(f'.lanes .a{number} text[fill="{dark}"] {{ fill: var(--dark); }}')
+    for colour, name in {DARK: "text", GREY: "soft", BAND: "band", GROUND: "ground", LANE: "line"}.items():
+        others += painted("", colour, name)
+    day, night = themes
+    return "\n".join([day, *others, f"@media screen and (prefers-color-scheme: dark) {{\n{night}\n}}"])
+
+
+def painted(inside: str, colour: str, name: str) -> list[str]:
+    """The rules that give what a drawing has in this colour the page's colour of this name."""
+    return [f'.lanes {inside}[{kind}="{colour}"] {{ {kind}: var(--{name}); }}' for kind in ("fill", "stroke")]
+
+
+def longest_of(texts: Iterable[str]) -> list[str]:
+    """These texts, the longest ones last."""
+    return sorted({*texts}, key=lambda text: (len(text), text))
 
 
 def stack(kind: str, texts: list[str]) -> str:
     """A text that changes, in room for the longest one."""
-    longest = sorted({*texts}, key=lambda text: (len(text), text))[-3:]
+    longest = longest_of(texts)[-3:]
     sizer = "".join(f'<span class="sizer" aria-hidden="true">{escape(text)}</span>' for text in longest)
     return f'<span class="stack {kind}">{sizer}<span class="text"></span></span>'
 
@@ -72,8 +82,8 @@ def stack(kind: str, texts: list[str]) -> str:
 def sizers(sentences: list[str]) -> str:
     """Room for the longest sentences. One that is hardly shorter may take more lines."""
     longest = max(map(len, sentences))
-    kept = sorted({it for it in sentences if len(it) * 10 >= longest * 8}, key=lambda it: (len(it), it))[-12:]
-    return "".join(f'<p class="sizer" aria-hidden="true">{escape(it)}</p>' for it in kept)
+    kept = longest_of(text for text in sentences if len(text) * 10 >= longest * 8)[-12:]
+    return "".join(f'<p class="sizer" aria-hidden="true">{escape(text)}</p>' for text in kept)
 
 
 def actor_class(actor: int) -> str:
@@ -88,35 +98,27 @@ WHERE = {
 }
 
 
-def most_at(lists: list[list[str]]) -> dict[str, int]:
-    """How often each text is in one of these lists at most."""
-    most: dict[str, int] = {}
-    for texts in lists:
-        most |= {text: max(most.get(text, 0), texts.count(text)) for text in {*texts}}
-    return most
-
-
-def pins_at(them: list[Chips]) -> dict[str, int]:
+def pins_at(moments: list[Chips]) -> dict[str, int]:
     """How many pins a place of each kind has at most, and a line of the pseudo-code."""
-    abouts = [[about for about in it.values() if about] for it in them]
-    needs: dict[str, int] = {}
-    for place, count in most_at([[about["place"] for about in it if about["place"]] for it in abouts]).items():
-        kind = WHERE[Place.read(place).kind]
-        needs[kind] = max(needs.get(kind, 0), count)
-    for count in most_at([[about["point"] for about in it] for it in abouts]).values():
-        needs["point"] = max(needs.get("point", 0), count)
+    needs: Counter[str] = Counter()
+    for chips_then in moments:
+        abouts = [about for about in chips_then.values() if about]
+        places = Counter(about["place"] for about in abouts if about["place"])
+        for place, count in places.items():
+            needs |= Counter({WHERE[Place.read(place).kind]: count})  # the greater one
+        needs |= Counter(point=max(Counter(about["point"] for about in abouts).values(), default=0))
     return needs
 
 
-def room(states: list[State], them: list[Chips]) -> str:
+def room(states: list[State], moments: list[Chips]) -> str:
     """How much room texts and pins need at most, as CSS. What never stands there has none."""
     widths, rules = widths_of(states), []
-    for kind, count in sorted(pins_at(them).items()):
+    for kind, count in sorted(pins_at(moments).items()):
         wide, high = DISC * min(PINS, count), DISC * -(-count // PINS)
         rules.append(f".p-{kind} {{ width: {wide:.2f}rem; min-height: {high:.2f}rem; }}")
         if kind in ("above", "below"):  # their pins stand in the room of other cells
             rules.append(f".place.{kind} {{ min-height: {high + 0.1:.2f}rem; }}")
-        elif kind in widths and widths[kind] + wide > max(CELL, *(widths[it] for it in HALVES)):
+        elif kind in widths and widths[kind] + wide > max(CELL, *(widths[half] for half in HALVES)):
             rules.append(f".place.{kind} {{ flex-direction: column; align-items: flex-start; }}")
     if all(Cell.read(content).is_safe for place, content in contents_in(states) if place.kind == "cell"):
         rules.append(".warning { display: none; }")
@@ -151,26 +153,27 @@ def widths_of(states: list[State]) -> dict[str, float]:
     indexes = {Cell.read(content).index for kind, content in contents if kind == "cell"}
     size = value_size(states)
     widths = {
-        "marker": [width_of(f"head {it} →", 0.9, True) for it in numbers],
-        "label": [width_of(f"cell {it}", 0.85) for it in cells],
-        "value": [1.5, *(width_of(it, size, True) for it in values_of(states))],
-        "index": [width_of(f"idx {it}", 0.85) for it in indexes],
+        "marker": [width_of(f"head {number} →", 0.9, True) for number in numbers],
+        "label": [width_of(f"cell {cell}", 0.85) for cell in cells],
+        "value": [1.5, *(width_of(value, size, True) for value in values_of(states))],
+        "index": [width_of(f"idx {index}", 0.85) for index in indexes],
         "next": [width_of(content, 0.9, True) for kind, content in contents if kind in ("next", "qhead", "qtail")],
     }
-    return {kind: max(them, default=0.0) for kind, them in widths.items()}
+    return {kind: max(found, default=0.0) for kind, found in widths.items()}
 
 
 # ---- Lines ----------------------------------------------------------------------------------------
 
 
-def line_item(it: State, why: str, mark: str) -> str:
+def line_item(state: State, why: str, mark: str) -> str:
     """A line with its reply, the mark of its viewer if it has one, and why it is refused."""
-    if not it.line:
+    if not state.line:
         words = '<span class="no">0</span><span class="words">before the first line</span>'
         return f'<li class="start"><button type="button" tabindex="-1">{words}</button></li>'
     kind = ' class="refused"' if why else ""
     more = f'<p class="why">{escape(why)}</p>' if why else ""
-    words = f'<span class="no">{it.line}</span>{mark}<code>{escape(it.text)}</code><code>{escape(it.reply)}</code>'
+    code = f"<code>{escape(state.text)}</code><code>{escape(state.reply)}</code>"
+    words = f'<span class="no">{state.line}</span>{mark}{code}'
     return f'<li{kind}><button type="button" tabindex="-1">{words}</button>{more}</li>'
 
 
@@ -197,20 +200,20 @@ def segments_in_order(states: list[State]) -> list[str]:
     """The segments of all moments as one order, with `gap` where some are left out: that of the links at
     the end, and those that are never linked last. One whose place in the order changes is there twice."""
     order: list[str] = []
-    for it in reversed(states):
-        at = 0
-        for name in ("gap" if isinstance(name, int) else name for name in it.linked):
-            if name not in order[at:]:
-                order.insert(at, name)
-            at = order.index(name, at) + 1
-    apart = dict.fromkeys(name for it in states for name in it.apart)
+    for state in reversed(states):
+        place = 0
+        for name in ("gap" if isinstance(item, int) else item for item in state.linked):
+            if name not in order[place:]:
+                order.insert(place, name)
+            place = order.index(name, place) + 1
+    apart = dict.fromkeys(name for state in states for name in state.apart)
     return [*order, *(name for name in apart if name not in order)]
 
 
 def segment(name: str, states: list[State], ring: int) -> str:
     """Room for a segment, and in its head for what ever stands there."""
-    ends = "".join(place(end) for end in ("qhead", "qtail") if any(it.places.get(end) == name for it in states))
-    apart = '<span class="never">not linked so far</span>' if any(name in it.apart for it in states) else ""
+    ends = "".join(place(end) for end in ("qhead", "qtail") if name in {state.places.get(end) for state in states})
+    apart = '<span class="never">not linked so far</span>' if any(name in state.apart for state in states) else ""
     more = f'<div class="ends">{apart}{ends}</div>' if apart or ends else ""
     head = f'<b class="name">segment {name}</b><span class="closed"></span>{more}'
     cells = "".join(column(list(HALVES)) for _ in range(ring))
@@ -245,53 +248,52 @@ def queue(states: list[State], ring: int) -> str:
 # ---- Actors ---------------------------------------------------------------------------------------
 
 
-def seen_of(chips: list[Chips], actor: int) -> list[dict[str, str]]:
-    """What an actor is about to do, wherever it is in a call."""
-    return [about for about in (it[actor] for it in chips) if about]
+def seen_of(moments: list[Chips]) -> dict[int, list[dict[str, str]]]:
+    """What each actor is about to do, wherever it is in a call."""
+    return {actor: [about for chips_then in moments if (about := chips_then[actor])] for actor in moments[0]}
 
 
-def chips(them: list[Chips], page: dict[str, dict[str, list[str]]]) -> str:
+def chips(moments: list[Chips], code: Code) -> str:
     """Room for what the actors are about to do in these moments."""
-    seen = {actor: seen_of(them, actor) for actor in them[0]}
-    return "\n".join(chip(actor, abouts, page) for actor, abouts in seen.items() if abouts)
+    return "\n".join(chip(actor, abouts, code) for actor, abouts in seen_of(moments).items() if abouts)
 
 
-def beside(them: list[Chips]) -> int:
+def beside(moments: list[Chips]) -> int:
     """How many chips stand beside each other where there is room for some, with rows of one length."""
-    count = max(1, sum(bool(seen_of(them, actor)) for actor in them[0]))
+    count = max(1, sum(map(bool, seen_of(moments).values())))
     return -(-count // -(-count // MOST_BESIDE))
 
 
-def idle(them: list[Chips]) -> str:
+def idle(moments: list[Chips]) -> str:
     """Who is in no call at any of these moments, in words."""
-    names = [str(actor) for actor in them[0] if not seen_of(them, actor)]
+    names = [str(actor) for actor, abouts in seen_of(moments).items() if not abouts]
     return f" In no call: actor{'s' if len(names) > 1 else ''} {', '.join(names)}." if names else ""
 
 
-def chip(actor: int, seen: list[dict[str, str]], page: dict[str, dict[str, list[str]]]) -> str:
+def point(kind: str, name: str, lines: Sequence[str], more: str = "") -> str:
+    """The lines of a control point."""
+    code = escape("\n".join(lines))
+    return f'<div class="{kind}" data-point="{name}"><b>{name}</b><code>{code}</code>{more}</div>'
+
+
+def chip(actor: int, seen: list[dict[str, str]], code: Code) -> str:
     """Room for what an actor is about to do in these moments."""
-    points = {it["point"]: page[it["call"].split(" ")[0]][it["point"]] for it in seen}
-    codes = "".join(
-        f'<div class="point" data-point="{name}"><b>{name}</b><code>{escape(chr(10).join(lines))}</code></div>'
-        for name, lines in points.items()
-    )
-    call, words, note = (stack(key, [*(it[key] for it in seen), "in no call"]) for key in ("call", "words", "note"))
+    points = {about["point"]: code[about["call"].split(" ")[0]][about["point"]] for about in seen}
+    codes = "".join(point("point", name, lines) for name, lines in points.items())
+    keys = ("call", "words", "note")
+    call, words, note = (stack(key, [*(about[key] for about in seen), "in no call"]) for key in keys)
     head = f'<div class="chip-head"><span class="disc">{actor}</span><b>actor {actor}</b>{call}</div>'
     kind = f'class="chip {actor_class(actor)}" data-actor="{actor}"'
     return f'<li {kind}>{head}<div class="stack">{codes}</div><div class="chip-foot">{note}{words}</div></li>'
 
 
-def pseudo_code(them: list[Chips], page: dict[str, dict[str, list[str]]]) -> str:
+def pseudo_code(moments: list[Chips], code: Code) -> str:
     """The pseudo-code of the calls in which an actor is, with room for the actors at each line."""
-    used = {about["call"].split(" ")[0] for it in them for about in it.values() if about}
-    heads = {word: head for head, word in model.CALLS.items()}
-    calls = [call for call in heads if call in used]
+    used = {about["call"].split(" ")[0] for abouts in seen_of(moments).values() for about in abouts}
+    room_for_actors = '<span class="pins p-point"></span><span class="who"></span>'
     parts = []
-    for call in calls:
-        steps = "".join(
-            f'<div class="step" data-point="{name}"><b>{name}</b><code>{escape(chr(10).join(lines))}</code>'
-            f'<span class="pins p-point"></span><span class="who"></span></div>'
-            for name, lines in page[call].items()
-        )
-        parts.append(f"<div><h3>{escape(heads[call])}</h3>{steps}</div>")
+    for head, call in model.CALLS.items():
+        if call in used:
+            steps = "".join(point("step", name, lines, room_for_actors) for name, lines in code[call].items())
+            parts.append(f"<div><h3>{escape(head)}</h3>{steps}</div>")
     return "\n".join(parts)

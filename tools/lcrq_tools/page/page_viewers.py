@@ -1,4 +1,4 @@
-"""What a page of a history has beside that of a script: the mark of each line's viewer.
+"""Gives the page of a history what a page of a script lacks: the mark of each line's viewer. `page.py` calls it.
 
 `page_viewers.css` and `page_viewers.js` are on such a page alone. A mark is drawn once, in a list
 above the lines that says which viewer it is; the other places use that drawing. A screen reader hears
@@ -7,8 +7,9 @@ above the lines that says which viewer it is; the other places use that drawing.
 
 from collections.abc import Collection
 from pathlib import Path
+from xml.etree.ElementTree import Element
 
-from lcrq_tools.draw.figure import element, number
+from lcrq_tools.draw.figure import element, number, xml_of
 from lcrq_tools.draw.viewer_marks import HIGH, mark_at, viewer_name, width_of_marks
 
 STYLE, SCRIPT = (Path(__file__).with_suffix(ending) for ending in (".css", ".js"))
@@ -21,38 +22,40 @@ class Marks:
         self.viewers = sorted(viewers)
         self.width = width_of_marks(self.viewers)
 
-    def symbol(self, viewer: int) -> str:
+    def symbol(self, viewer: int) -> Element:
         """The drawing of a mark, in the colours of the place that uses it."""
-        lines = "".join(mark_at(viewer, 0.0, 0.0, "currentColor", "var(--ground)"))
-        box = f"{number(-self.width / 2)} {number(-HIGH / 2)} {number(self.width)} {number(HIGH)}"
-        return f'<symbol id="viewer-{viewer}" viewBox="{box}">{lines}</symbol>'
+        box = " ".join(map(number, (-self.width / 2, -HIGH / 2, self.width, HIGH)))
+        symbol = element("symbol", id=f"viewer-{viewer}", viewBox=box)
+        symbol.append(mark_at(viewer, 0.0, 0.0, "currentColor", "var(--ground)"))
+        return symbol
 
-    def image(self, viewer: int, named: str) -> str:
+    def image(self, viewer: int, **names: str) -> str:
         """A mark in a line of text."""
-        return f'<svg class="asker" {named}><use href="#viewer-{viewer}"/></svg>'
+        image = element("svg", class_="asker", **names)
+        image.append(element("use", href=f"#viewer-{viewer}"))
+        return xml_of(image)
 
     def in_line(self, viewer: int) -> str:
         """The mark of a line's viewer, with its name; nothing for a line of a script."""
-        return self.image(viewer, f'role="img" aria-label="{viewer_name(viewer)}"') if viewer else ""
+        return self.image(viewer, role="img", aria_label=viewer_name(viewer)) if viewer else ""
 
-    def in_row(self, viewer: int, x: float) -> str:
+    def in_row(self, viewer: int, x: float) -> list[Element]:
         """The mark of a step's viewer, from here on in a row of the lanes; the row has its name."""
         place = {"x": x, "y": -HIGH / 2, "width": self.width, "height": HIGH}
-        return element("use", href=f"#viewer-{viewer}", **place) if viewer else ""
+        return [element("use", href=f"#viewer-{viewer}", **place)] if viewer else []
 
     def words(self, viewer: int) -> str:
         """A mark with its name beside it."""
-        hidden = 'aria-hidden="true"'
-        return f"{self.image(viewer, hidden)}<span>{viewer_name(viewer)}</span>"
+        return f"{self.image(viewer, aria_hidden='true')}<span>{viewer_name(viewer)}</span>"
 
     def legend(self) -> str:
         """The list that says which mark is which viewer."""
         if not self.viewers:
             return ""
-        symbols = "".join(map(self.symbol, self.viewers))
+        drawings = element("svg", class_="drawings", aria_hidden="true")
+        drawings.extend(map(self.symbol, self.viewers))
         items = "".join(f'<li data-viewer="{viewer}">{self.words(viewer)}</li>' for viewer in self.viewers)
-        drawings = f'<svg class="drawings" aria-hidden="true">{symbols}</svg>'
-        return f'\n{drawings}\n<ul class="viewers" id="viewers" aria-label="The viewers">{items}</ul>'
+        return f'\n{xml_of(drawings)}\n<ul class="viewers" id="viewers" aria-label="The viewers">{items}</ul>'
 
     def header(self) -> str:
         """Room for the viewer of the current line."""

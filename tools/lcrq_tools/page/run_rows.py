@@ -1,14 +1,16 @@
-"""The steps of a run as rows of its page: which step is which along the moments, and what its row has.
+"""Makes rows of the steps of a run for `page.py`: which step is which along the moments, and what its row has.
 
 A step is one row, whether it is live, undone, or left by a `goto`. The steps of one actor keep their
 order while others move, and a bookmark keeps its steps: so one knows a step again at each moment. The
 dots of a row are the contents before and after its step, as the program replies them.
 """
 
+from collections.abc import Iterable
+
 from lcrq_tools.draw.askers import viewers_after
 from lcrq_tools.draw.lanes import Row, actor_lane, lanes_at, lanes_of, order_of, row_of
 from lcrq_tools.page.run_states import Asked, State, common_of
-from lcrq_tools.records import Actor, content_of, is_made
+from lcrq_tools.records import is_made
 
 
 class Rows:
@@ -53,41 +55,33 @@ class Rows:
         return [own[step.event.actor].pop(0) for step in state.steps]
 
 
-# ---- What a row has -------------------------------------------------------------------------------
-
-
-def lanes_of_rows(rows: list[Row], chain: list[str]) -> list[str]:
-    """All lanes of these rows. Segments are in the order of this chain."""
-    lanes = {actor_lane(row.actor()) for row in rows}
-    lanes.update(lane for row in rows for lane in lanes_at(row.step.place))
+def lanes_of_rows(rows: Iterable[Row], states: list[State]) -> list[str]:
+    """All lanes of these rows. Segments are in the order of their links at the last moment; those that are gone
+    then follow."""
+    chain = [name for state in reversed(states) for name in (*state.linked, *state.apart) if isinstance(name, str)]
+    lanes = {lane for row in rows for lane in (actor_lane(row.actor()), *lanes_at(row.step.place))}
     return sorted(lanes, key=lambda lane: order_of(lane, chain))
-
-
-def chain_of(states: list[State]) -> list[str]:
-    """The segments in the order of their links at the last moment; those that are gone then follow."""
-    names = [name for state in reversed(states) for name in (*state.linked, *state.apart) if isinstance(name, str)]
-    return [*dict.fromkeys(names)]
 
 
 def filled_rows(
     asked: Asked, states: list[State], rows: Rows, shown: list[int]
 ) -> tuple[dict[int, Row], list[str]]:
     """The rows that are shown, with their dots, and the lanes that they have."""
-    drawn = {number: row_of(states[at].steps[position]) for number, (at, position) in enumerate(rows.made)}
-    drawn = {number: drawn[number] for number in shown}
-    lanes = lanes_of_rows([*drawn.values()], chain_of(states))
-    along: dict[int, dict[int, Row]] = {}
+    firsts = {number: rows.made[number] for number in shown}
+    drawn = {number: row_of(states[moment].steps[position]) for number, (moment, position) in firsts.items()}
+    lanes = lanes_of_rows(drawn.values(), states)
+    along: dict[int, list[Row]] = {}
     for number, row in drawn.items():
-        at, position = rows.made[number]
-        if at and is_made(states[at].reply):
-            before, after = states[at - 1], states[at]
+        moment, _ = firsts[number]
+        if moment and is_made(states[moment].reply):
+            before, after = states[moment - 1], states[moment]
             touched = lanes_of(row.step.place, lanes)
             contents = [(lane, before.content(lane), after.content(lane)) for lane in touched]
             row.fill(before.actors[row.actor()], contents)
         else:
-            along.setdefault(at, {})[position] = row
-    for at, them in along.items():
-        fill_along(asked, states[at], them, lanes)
+            along.setdefault(moment, []).append(row)
+    for moment, unfilled in along.items():
+        fill_along(asked, states[moment], unfilled, lanes)
     if asked.session.viewers:
         put_viewers(asked, states, rows, drawn)
     return drawn, lanes
@@ -95,31 +89,16 @@ def filled_rows(
 
 def put_viewers(asked: Asked, states: list[State], rows: Rows, drawn: dict[int, Row]) -> None:
     """Puts into each row the viewer who asked its step."""
-    viewers = viewers_after(asked.session, {states[at].line for at, _ in rows.made})
+    viewers = viewers_after(asked.session, {states[moment].line for moment, _ in rows.made})
     for number, row in drawn.items():
-        at, position = rows.made[number]
-        row.viewer = viewers[states[at].line][position]
+        moment, position = rows.made[number]
+        row.viewer = viewers[states[moment].line][position]
 
 
-def fill_along(asked: Asked, state: State, drawn: dict[int, Row], lanes: list[str]) -> None:
-    """Fills rows, by their positions, whose steps no line of these makes, going along the steps of a
-    moment."""
+def fill_along(asked: Asked, state: State, drawn: list[Row], lanes: list[str]) -> None:
+    """Fills rows whose steps no line of these makes, going along the steps of a moment."""
     session = asked.at(state.line)
-    lines = session.moved_to(1)
-    begins = len(lines)
-    for position in range(len(state.steps)):
-        lines += questions_of(drawn.get(position), lanes)
-    replies = iter(session.ask(lines)[begins:])
-    for position in range(len(state.steps)):
-        row = drawn.get(position)
-        answers = [next(replies) for _ in questions_of(row, lanes)]
-        if row:
-            touched = lanes_of(row.step.place, lanes)
-            shows = [*map(content_of, answers)]
-            row.fill(Actor.read(answers[0]), zip(touched, shows[1:], shows[len(touched) + 2:]))
-
-
-def questions_of(row: Row | None, lanes: list[str]) -> list[str]:
-    """The line that makes a step again, and what is asked about it before and after."""
-    shows = [f"show {lane}" for lane in lanes_of(row.step.place, lanes)] if row else []
-    return [actor_lane(row.actor()), *shows, "forward 1", *shows] if row else ["forward 1"]
+    befores = [0, *(row.step.number for row in drawn)]
+    questions = (row.questions(lanes, before) for row, before in zip(drawn, befores))
+    for row, replies in zip(drawn, session.ask_parts([session.moved_to(1), *questions])[1:]):
+        row.take(lanes, replies)

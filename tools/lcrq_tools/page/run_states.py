@@ -1,4 +1,4 @@
-"""The moments of a run as the program replies: `tools/page.py` puts them into its page.
+"""Asks the program for the moments of a run, which `page.py` puts into its page.
 
 A moment is what a line of the script leaves. Asked are the live and the undone steps, the words of
 each actor, the content of each place, and what each actor's next step would touch. Each of these
@@ -9,15 +9,14 @@ have a run of their own, which makes the live steps of each moment and no others
 import argparse
 import copy
 import itertools
+from collections.abc import Iterable, Sequence
 from dataclasses import dataclass, field
 
+from lcrq_tools.draw.boxes import MOST_KEPT, SLOTS, counted
 from lcrq_tools.draw.figure import Session, in_order
-from lcrq_tools.draw.moment import SLOTS, names_of, next_of
+from lcrq_tools.draw.moment import names_of, trials_of, tried_by
 from lcrq_tools.draw.viewer_marks import viewer_name
-from lcrq_tools.program import replies_to
 from lcrq_tools.records import Actor, Cell, Counts, Place, Refusal, Step, content_of
-
-MOST_KEPT = 6  # linked segments that a queue may have before some of them are left out
 
 
 @dataclass
@@ -68,8 +67,11 @@ class Asked:
     def __init__(self, arguments: argparse.Namespace, first: int):
         self.arguments, self.first = arguments, first
         self.session = Session(arguments)
-        script = self.session.script
-        self.lines = script.removesuffix(b"\n").split(b"\n") if script else []
+        self.lines = self.session.lines
+
+    def text(self, line: int) -> str:
+        """A line as a page shows it; nothing before the first one."""
+        return self.lines[line - 1].encode("latin-1").decode("ascii", "replace") if line else ""
 
     def at(self, line: int) -> Session:
         """The session that so many lines leave."""
@@ -77,62 +79,51 @@ class Asked:
         arguments.lines = line
         return Session(arguments)
 
-    def replies_to(self, lines: list[bytes]) -> list[str]:
-        """The replies to these lines alone."""
-        return replies_to(self.session.words, b"".join(line + b"\n" for line in lines))
-
-    def ask(self, questions: list[list[str]]) -> list[list[str]]:
+    def ask(self, questions: Iterable[Sequence[str]]) -> list[list[str]]:
         """The replies to each moment's questions, and in front of them that to its line."""
-        given, lengths = self.lines[: self.first], []
-        for at, asked in enumerate(questions, self.first):
-            own = self.lines[at - 1: at] if at > self.first else []
-            given += [*own, *(line.encode("ascii") for line in asked)]
-            lengths.append(len(own) + len(asked))
-        replies = iter(self.replies_to(given)[self.first:])
-        return [[*itertools.islice(replies, length)] for length in lengths]
+        first, lines = self.first, self.lines
+        parts = [[*lines[max(first, number - 1): number], *asked] for number, asked in enumerate(questions, first)]
+        return self.session.replies_to_parts([lines[:first], *parts])[1:]
 
 
 def lengths_of(asked: Asked) -> list[State]:
     """The moments, with how many steps are live and undone."""
     count = len(asked.lines) - asked.first + 1
     states = []
-    for at, replies in enumerate(asked.ask([["len"]] * count), asked.first):
+    for number, replies in enumerate(asked.ask([["len"]] * count), asked.first):
         counts = Counts.read(replies[-1])
-        text = asked.lines[at - 1].decode("ascii", "replace") if at else ""
-        reply = replies[0] if at > asked.first else ""
-        viewer = asked.session.viewers[at - 1] if at and asked.session.viewers else 0
-        states.append(State(at, text, reply, counts.live, counts.undone, viewer=viewer))
+        reply = replies[0] if number > asked.first else ""
+        viewer = asked.session.viewers[number - 1] if number and asked.session.viewers else 0
+        states.append(State(number, asked.text(number), reply, counts.live, counts.undone, viewer=viewer))
     return states
 
 
 def ask_steps(asked: Asked, states: list[State]) -> None:
     """Asks for the steps. An undone one is replied as long as it is made again."""
-    questions = []
-    for state in states:
-        ends = [f"forward {state.undone}"] if state.undone else []
-        steps = [f"step {number}" for number in range(1, state.live + state.undone + 1)]
-        questions.append([*ends, *steps, *(line.replace("forward", "back") for line in ends)])
-    for state, replies in zip(states, asked.ask(questions)):
-        steps = [reply for reply in replies if reply.startswith("step ") and "; " in reply]
-        state.steps = [Step.read(reply) for reply in steps[len(steps) - state.live - state.undone:]]
+    counts = [state.live + state.undone for state in states]
+    questions = [
+        [f"forward {state.undone}", *(f"step {number}" for number in range(1, count + 1)), f"back {state.undone}"]
+        for state, count in zip(states, counts)
+    ]
+    for state, count, replies in zip(states, counts, asked.ask(questions)):
+        state.steps = [*map(Step.read, replies[-count - 1: -1])]
 
 
 def ask_actors(asked: Asked, states: list[State], names: list[str]) -> None:
     """Asks for the actors, and for the order of the segments."""
     actors = range(1, asked.session.actors + 1)
-    places = ["qhead", "qtail", *(f"next {name}" for name in names)]
-    lines = [*(f"actor {actor}" for actor in actors), *(f"show {place}" for place in places)]
+    lines = [*(f"actor {actor}" for actor in actors), *(f"show {place}" for place in ("qhead", "qtail"))]
+    lines += (f"show next {name}" for name in names)
     for state, replies in zip(states, asked.ask([lines] * len(states))):
-        replies = replies[-len(lines):]
-        state.actors = dict(zip(actors, map(Actor.read, replies)))
-        shown = dict(zip(places, map(content_of, replies[len(actors):])))
-        nexts = {name: shown[f"next {name}"] for name in names if shown[f"next {name}"]}
-        state.chain, state.apart = in_order(nexts, [shown["qhead"], shown["qtail"]])
+        about = replies[-len(lines):]
+        state.actors = dict(zip(actors, map(Actor.read, about)))
+        head, tail, *nexts = map(content_of, about[len(actors):])
+        state.chain, state.apart = in_order({name: end for name, end in zip(names, nexts) if end}, [head, tail])
 
 
-def common_of(before: list[Step], after: list[Step]) -> int:
-    """With how many equal steps two lists begin."""
-    return sum(1 for _ in itertools.takewhile(lambda pair: pair[0] == pair[1], zip(before, after)))
+def common_of(before: Iterable[object], after: Iterable[object]) -> int:
+    """With how many equal parts two lists begin."""
+    return len([*itertools.takewhile(lambda pair: pair[0] == pair[1], zip(before, after))])
 
 
 def moves_between(before: list[Step], after: list[Step]) -> list[str]:
@@ -144,20 +135,14 @@ def moves_between(before: list[Step], after: list[Step]) -> list[str]:
 
 def ask_trials(asked: Asked, states: list[State]) -> None:
     """Asks what each actor's next step would be."""
-    given: list[bytes] = []
-    lengths: list[tuple[int, int]] = []
+    parts = [asked.lines[: asked.first]]
     before = states[0].steps[: states[0].live]
     for state in states:
-        after, number = state.steps[: state.live], state.live + 1
-        moves = moves_between(before, after)
-        trials = [line for actor in state.busy() for line in (f"go {actor}", f"step {number}", f"undo {number}")]
-        given += [line.encode("ascii") for line in (*moves, *trials)]
-        lengths.append((len(moves), len(trials)))
+        after = state.steps[: state.live]
+        parts += moves_between(before, after), trials_of(state.busy(), state.live)
         before = after
-    replies = iter(asked.replies_to([*asked.lines[: asked.first], *given])[asked.first:])
-    for state, (moved, tried) in zip(states, lengths):
-        answers = [*itertools.islice(replies, moved + tried)][moved:]
-        state.tried = dict(zip(state.busy(), map(next_of, answers[::3], answers[1::3])))
+    for state, replies in zip(states, asked.session.replies_to_parts(parts)[2::2]):
+        state.tried = tried_by(state.busy(), replies)
 
 
 def touched_by(state: State) -> list[Place]:
@@ -177,18 +162,6 @@ def kept_names(states: list[State]) -> set[str]:
         return {name for state in states for name in (*state.chain, *state.apart)}
     ends = {name for state in states for name in (*state.chain[:1], *state.chain[-1:], *state.apart)}
     return {*(place.segment for place in touched_in(states)), *ends} - {""}
-
-
-def counted(linked: list[str], kept: set[str]) -> list[str | int]:
-    """The segments that are drawn, in their order, and how many are left out between them."""
-    found: list[str | int] = []
-    for is_kept, names in itertools.groupby(linked, key=lambda name: name in kept):
-        them = [*names]
-        if is_kept:
-            found.extend(them)
-        else:
-            found.append(len(them))
-    return found
 
 
 def used_slots(asked: Asked, states: list[State]) -> list[str]:
@@ -224,11 +197,10 @@ def states_of(asked: Asked) -> list[State]:
     kept = kept_names(states)
     ask_places(asked, states, sorted(kept, key=number_of))
     for state in states:
-        state.linked = counted(state.chain, kept)
+        state.linked = counted(state.chain, kept.__contains__)
     return states
 
 
-def number_of(name: str) -> tuple[int, int]:
+def number_of(name: str) -> tuple[int, ...]:
     """The two numbers of a segment's name."""
-    maker, number = name.split(".")
-    return int(maker), int(number)
+    return tuple(map(int, name.split(".")))

@@ -27,20 +27,29 @@ class Elements(unittest.TestCase):
     """Elements of SVG."""
 
     def test_values_and_text_are_escaped(self) -> None:
-        made = figure.element("text", "a < b & c", data_place='cell "0"', fill=None)
+        made = figure.xml_of(figure.element("text", "a < b & c", data_place='cell "0"', fill=None))
+        self.assertEqual(made, '<text data-place="cell &quot;0&quot;">a &lt; b &amp; c</text>')
         read = ElementTree.fromstring(made)
         self.assertEqual((read.text, read.attrib), ("a < b & c", {"data-place": 'cell "0"'}))
 
+    def test_only_an_empty_text_has_two_tags(self) -> None:
+        made = figure.group("row", [figure.element("text", "", x=1), figure.element("rect", data_place="a />", x=0.5)])
+        rect = '<rect data-place="a /&gt;" x="0.5"/>'
+        self.assertEqual(figure.xml_of(made), f'<g class="row"><text x="1"></text>{rect}</g>')
+
     def test_a_number_has_one_digit_after_the_point(self) -> None:
-        self.assertEqual([figure.number(it) for it in (3.0, 2.25, 7, "x")], ["3", "2.2", "7", "x"])
+        self.assertEqual([figure.number(value) for value in (3.0, 2.25, 7, "x")], ["3", "2.2", "7", "x"])
 
     def test_colours_mix_by_their_parts(self) -> None:
         self.assertEqual(figure.mixed("#ff0000", "#0000ff", 0.5), "#800080")
         self.assertEqual(figure.mixed("#123456", "#ffffff", 1.0), "#123456")
 
     def test_a_figure_is_well_formed_and_titled(self) -> None:
-        root = ElementTree.fromstring(figure.svg("A title", "About <it>", 40, 20, []))
-        self.assertEqual([it.text for it in root][:2], ["A title", "About <it>"])
+        parts = [figure.group("nothing", []), figure.group("one", [figure.element("rect", x=1)])]
+        text = figure.svg("A title", "About <it>", 40, 20, parts)
+        self.assertEqual(text.splitlines()[4:], ['<g class="one">', '<rect x="1"/>', "</g>", "</svg>"])
+        root = ElementTree.fromstring(text)
+        self.assertEqual([child.text for child in root][:2], ["A title", "About <it>"])
         self.assertEqual((root.get("width"), root.get("viewBox")), ("40", "0 0 40 20"))
 
 

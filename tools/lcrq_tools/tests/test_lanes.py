@@ -23,9 +23,9 @@ def picture(*rows: Row, last: int = 0, drawn: list[str] | None = None) -> Pictur
     return Picture("A run", drawn or LANES, list(rows), {}, 1, last or rows[-1].step.number)
 
 
-def laid_out(of: Picture, legend: list[str] | None = None) -> Layout:
+def laid_out(made: Picture, legend: list[str] | None = None) -> Layout:
     """The layout of a picture."""
-    return Layout(of, 0.0, legend or ["write"])
+    return Layout(made, 0.0, legend or ["write"])
 
 
 class Lanes(unittest.TestCase):
@@ -49,7 +49,7 @@ class Lanes(unittest.TestCase):
 
     def test_a_long_text_moves_the_lanes_behind_it(self) -> None:
         text = "18446744073709551615"
-        short, long = (laid_out(picture(row(1, 1, Dot("value 0.0 0", "wrote", it)))) for it in ("7", text))
+        short, long = (laid_out(picture(row(1, 1, Dot("value 0.0 0", "wrote", value)))) for value in ("7", text))
         room = long.lanes["index 0.0 0"] - long.lanes["value 0.0 0"]
         self.assertGreater(room, width_of(text, SMALL, True))
         self.assertGreater(room, short.lanes["index 0.0 0"] - short.lanes["value 0.0 0"])
@@ -69,7 +69,7 @@ class Rows(unittest.TestCase):
     """Where rows and breaks are."""
 
     def test_rows_are_one_height_apart(self) -> None:
-        layout = laid_out(picture(*(row(at, 1) for at in range(1, 6))))
+        layout = laid_out(picture(*(row(number, 1) for number in range(1, 6))))
         self.assertEqual({below - above for above, below in pairwise(layout.rows)}, {lanes.ROW})
         self.assertEqual(layout.breaks, [])
 
@@ -81,7 +81,7 @@ class Rows(unittest.TestCase):
         self.assertEqual(layout.side_of(4, -1), (layout.rows[1] - lanes.ROW // 2 + 2, True))
 
     def test_headings_stand_again_after_forty_rows(self) -> None:
-        layout = laid_out(picture(*(row(at, 1) for at in range(1, lanes.MOST_BELOW + 2))))
+        layout = laid_out(picture(*(row(number, 1) for number in range(1, lanes.MOST_BELOW + 2))))
         self.assertEqual(len(layout.parts), 2)
         top, bottom = layout.parts[0].lane_ends()
         self.assertTrue(top < layout.rows[0] and layout.rows[lanes.MOST_BELOW - 1] < bottom)
@@ -126,9 +126,9 @@ class Drawn(unittest.TestCase):
         made = picture(row(1, 1, Dot("qtail", "read", "0.0")), row(2, 2, Dot("value 0.0 0", "wrote", "7")))
         made.calls = [Call(1, 1, None), Call(2, 2, 2)]
         root = ElementTree.fromstring(drawing.draw(made))
-        groups = [it.get("class") for it in root]
+        groups = [child.get("class") for child in root]
         self.assertEqual(groups.count("row"), 2)
-        texts = ["".join(it.itertext()) for it in root.iter("{http://www.w3.org/2000/svg}text")]
+        texts = ["".join(words.itertext()) for words in root.iter("{http://www.w3.org/2000/svg}text")]
         for word in ("actor 1", "actor 2", "segment 0.0", "cell 0", "safe idx", "in a call"):
             self.assertIn(word, texts)
         self.assertEqual(drawing.draw(made), drawing.draw(made))

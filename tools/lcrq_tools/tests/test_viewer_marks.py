@@ -4,8 +4,9 @@ import unittest
 from xml.etree import ElementTree
 
 from lcrq_tools.draw import boxes, drawing, queue_drawing, viewer_marks
+from lcrq_tools.draw.boxes import Moment, Segment
+from lcrq_tools.draw.figure import xml_of
 from lcrq_tools.draw.lanes import Dot, Layout, Picture, Row
-from lcrq_tools.draw.moment import Moment, Segment
 from lcrq_tools.page import page_parts
 from lcrq_tools.page.page_viewers import Marks
 from lcrq_tools.page.run_states import State
@@ -28,21 +29,21 @@ def picture(*viewers: int) -> Picture:
 def moment(viewer: int) -> Moment:
     """The queue before any step, after a line of this viewer."""
     segment = Segment("0.0", 0, Tail(False, 0), "none", [Cell(True, 0, None), Cell(True, 1, None)])
-    array = {"ahead": "0", "atail": "0"} | {f"acell {at}": "empty" for at in range(64)}
+    array = {"ahead": "0", "atail": "0"} | {f"acell {slot}": "empty" for slot in range(64)}
     return Moment("A queue", "after line 1", "4 actors", "0.0", "0.0", [segment], array, [], [1], None, set(), viewer)
 
 
 def marks_in(svg: str) -> list[tuple[str, str]]:
     """The viewers whose marks a drawing has, each with the words of the mark."""
-    groups = [it for it in ElementTree.fromstring(svg).iter(f"{SVG}g") if it.get("class") == "viewer"]
-    return [(it.attrib["data-viewer"], it.findtext(f"{SVG}text", "")) for it in groups]
+    groups = [group for group in ElementTree.fromstring(svg).iter(f"{SVG}g") if group.get("class") == "viewer"]
+    return [(group.attrib["data-viewer"], group.findtext(f"{SVG}text", "")) for group in groups]
 
 
 class Frames(unittest.TestCase):
     """The mark of a viewer."""
 
     def test_all_marks_differ_without_colours(self) -> None:
-        marks = {"".join(viewer_marks.mark_at(viewer, 20.0, 10.0)).partition(">")[2] for viewer in ALL}
+        marks = {xml_of(viewer_marks.mark_at(viewer, 20.0, 10.0)).partition(">")[2] for viewer in ALL}
         self.assertEqual(len(marks), len(ALL))
         labels = {viewer_marks.label_of(viewer) for viewer in ALL}
         self.assertEqual(len(labels), len(ALL))
@@ -68,16 +69,17 @@ class Pictures(unittest.TestCase):
         svg = drawing.draw(picture(2, 1, 0, 12))
         named = [("1", "V1"), ("2", "V2"), ("12", "V12")]
         self.assertEqual(marks_in(svg), [("2", "V2"), ("1", "V1"), ("12", "V12"), *named])
-        texts = [it.text for it in ElementTree.fromstring(svg).iter(f"{SVG}text")]
-        self.assertEqual([it for it in texts if it and it.startswith("viewer ")], ["viewer 1", "viewer 2", "viewer 12"])
+        texts = [words.text or "" for words in ElementTree.fromstring(svg).iter(f"{SVG}text")]
+        names = [text for text in texts if text.startswith("viewer ")]
+        self.assertEqual(names, ["viewer 1", "viewer 2", "viewer 12"])
 
     def test_its_words_name_the_viewers(self) -> None:
         self.assertIn("1: viewer 2, actor 1 at E1 read qtail: 0.0. 2: actor 1 at E1", drawing.about(picture(2, 0)))
 
     def test_without_viewers_nothing_moves(self) -> None:
-        none, one = (Layout(picture(viewer), 0.0, ["write"]) for viewer in (0, 1))
-        self.assertEqual((none.marks, none.viewers), (0.0, []))
-        self.assertGreater(one.lanes["actor 1"] - none.lanes["actor 1"], one.marks)
+        plain, marked = (Layout(picture(viewer), 0.0, ["write"]) for viewer in (0, 1))
+        self.assertEqual((plain.marks, plain.viewers), (0.0, []))
+        self.assertGreater(marked.lanes["actor 1"] - plain.lanes["actor 1"], marked.marks)
         self.assertEqual(marks_in(drawing.draw(picture(0))), [])
 
     def test_the_legend_of_many_viewers_goes_on_below(self) -> None:
@@ -91,12 +93,12 @@ class Moments(unittest.TestCase):
     """The mark of a moment."""
 
     def test_the_last_line_has_the_mark_of_its_viewer(self) -> None:
-        self.assertEqual(marks_in(queue_drawing.draw(moment(3), "no step yet")), [("3", "V3"), ("3", "V3")])
-        self.assertEqual(marks_in(queue_drawing.draw(moment(0), "no step yet")), [])
+        self.assertEqual(marks_in(queue_drawing.draw(moment(3))), [("3", "V3"), ("3", "V3")])
+        self.assertEqual(marks_in(queue_drawing.draw(moment(0))), [])
 
     def test_the_drawing_has_room_for_it(self) -> None:
-        none, one = (boxes.Layout(moment(viewer), "no step yet") for viewer in (0, 64))
-        self.assertEqual((none.asker, one.height - none.height), (0.0, 18))
+        plain, marked = (boxes.Layout(moment(viewer)) for viewer in (0, 64))
+        self.assertEqual((plain.asker, marked.height - plain.height), (0.0, 18))
 
 
 class Pages(unittest.TestCase):
@@ -105,7 +107,7 @@ class Pages(unittest.TestCase):
     def test_a_page_of_a_script_has_none(self) -> None:
         marks = Marks([])
         self.assertEqual((marks.legend(), marks.header(), marks.style(), marks.script()), ("", "", [], []))
-        self.assertEqual((marks.in_line(0), marks.in_row(0, 9.0)), ("", ""))
+        self.assertEqual((marks.in_line(0), marks.in_row(0, 9.0)), ("", []))
 
     def test_a_screen_reader_hears_a_viewer(self) -> None:
         marks, state = Marks([2, 1]), State(3, "go 1", "ok 3", 3, 0, viewer=2)
