@@ -4,9 +4,11 @@ goes. Each is defined here, and reads and says the same in every tool. Only Pyth
 
 import argparse
 import sys
+from collections.abc import Sequence
 from pathlib import Path
 
-from lcrq_tools.faults import Fault, Parser
+from lcrq_tools import drafts
+from lcrq_tools.faults import Fault, Parser, say
 from lcrq_tools.places import found_program, required
 
 MOST_ACTORS, RINGS = 16, (2, 4, 8)  # how many actors a world may have, and cells its rings
@@ -75,6 +77,32 @@ def run_parser(about: str | None, example: str, out: str = "OUT.svg") -> Parser:
     add_refused(parser)
     add_program(parser)
     return parser
+
+
+def world_of(draft: drafts.Draft, name: str) -> dict[str, object]:
+    """The options of a draft's world, by their names."""
+    world = Parser("")
+    add_world(world)
+    try:
+        return vars(world.parse_args(draft.options))
+    except Fault as fault:
+        raise Fault(f"{name}, `{drafts.RUN_WITH}{' '.join(draft.options)}`: {fault}") from fault
+
+
+def settled(parser: Parser, words: Sequence[str] | None = None) -> argparse.Namespace:
+    """The command line of a tool that takes a script. A draft brings the options of its world along, and it is
+    said how it is run; an option that differs from them is a fault."""
+    arguments = parser.parse_args(words)
+    name: str = arguments.script or ""
+    if drafts.is_draft(name):
+        draft = drafts.read(name)
+        for option, chosen in world_of(draft, name).items():
+            given = getattr(arguments, option)
+            if given not in (None, chosen):
+                raise Fault(f"{name} says {f'--{option} {chosen}' if chosen else f'no --{option}'}, not {given}")
+            setattr(arguments, option, chosen)
+        say(f"{name} is run as `{draft.command('its-lines')}`")
+    return arguments
 
 
 # ---- What they mean -------------------------------------------------------------------------------

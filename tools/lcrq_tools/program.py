@@ -21,6 +21,7 @@ from collections.abc import Callable, Iterable, Mapping, Sequence
 from pathlib import Path
 from typing import IO, NamedTuple, ParamSpec, Self
 
+from lcrq_tools import drafts
 from lcrq_tools.faults import FAULTS, Fault, Parser, text_of
 from lcrq_tools.options import add_program
 from lcrq_tools.places import CRATES as CRATES, EXAMPLES as EXAMPLES, TOP as TOP  # which most take from here
@@ -125,7 +126,9 @@ def standard_input() -> bytes:
 
 
 def bytes_of(name: str) -> bytes:
-    """The bytes of a file; `-` is standard input."""
+    """The bytes of a file, of a draft those of its plain script; `-` is standard input."""
+    if drafts.is_draft(name):
+        return drafts.read(name).script().encode("latin-1", "replace")
     return standard_input() if name == "-" else Path(name).read_bytes()
 
 
@@ -241,7 +244,8 @@ class Driven:
 
     def __init__(self, words: Sequence[str], seconds: float = SECONDS) -> None:
         self.seconds = seconds
-        self.child = subprocess.Popen(words, stdin=subprocess.PIPE, stdout=subprocess.PIPE)
+        pipe = subprocess.PIPE  # in a session of its own, so that Control-C at a terminal isn't for the program
+        self.child = subprocess.Popen(words, stdin=pipe, stdout=pipe, start_new_session=True)
         assert self.child.stdin and self.child.stdout  # pipes
         self.stdin, self.stdout = self.child.stdin, self.child.stdout
         # the clock of the child's processor time, by the number that clock_getcpuclockid(3) gives
