@@ -25,6 +25,7 @@ TOOLS = {
     "picture": "draw.picture",
     "moment": "draw.moment",
     "page": "page.page",
+    "explain": "speak.explain",
     "draft": "speak.draft",
     "freeze": "start.freeze",
     "continue_run": "start.continue_run",

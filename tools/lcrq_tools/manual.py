@@ -30,6 +30,17 @@ ANSWERED = quoted_in(PAGE, "| After | Reply |", 0)
 REPLIES = {word for reply in quoted_in(PAGE, "| After | Reply |", 1) for word in re.findall("^[a-z]+", reply)}
 
 
+def meanings() -> dict[str, str]:
+    """What each line of a script does, by its form."""
+    rows: dict[str, str] = {}
+    for lines, what, *_ in rows_of(PAGE, "| Line | Meaning |"):
+        rows |= dict.fromkeys(QUOTED.findall(lines), re.sub(r"\[([^]]*)\]\([^)]*\)", r"\1", what))
+    return rows
+
+
+MEANINGS = meanings()
+
+
 def line_of(form: str) -> str:
     """A line of this form: `a` for a name, and 1 for any other word that the manual has in capitals."""
     line = form.replace("PLACE", PLACES[0])
