@@ -25,6 +25,7 @@ TOOLS = {
     "picture": "draw.picture",
     "moment": "draw.moment",
     "page": "page.page",
+    "prompt": "speak.prompt",
     "explain": "speak.explain",
     "draft": "speak.draft",
     "freeze": "start.freeze",
