@@ -354,13 +354,14 @@ def make(words: Sequence[str], built: str, folder: Path) -> Path:
     ended = program.run([*RELEASE, *words, "--program", built, "-o", str(folder)], timeout=SECONDS)
     if ended.status:
         raise program.Broken(f"release.py {' '.join(words)}: {ended.errors.strip()}")
-    made = folder / next(line for line in ended.output.decode().splitlines() if line.endswith(".tar.gz")).split("/")[-1]
-    with tarfile.open(made) as archive:
-        if hasattr(tarfile, "data_filter"):  # from Python 3.11.4 on, which mypy 1.0.1 doesn't know
-            archive.extractall(folder, filter="data")  # type: ignore[call-arg]
-        else:
-            archive.extractall(folder)
-    return folder / made.name.removesuffix(".tar.gz")
+    made = [Path(line) for line in ended.output.decode().splitlines() if line.endswith(".tar.gz")]
+    for path in made:  # that for students, and where the answers are apart that for the teacher
+        with tarfile.open(path) as archive:
+            if hasattr(tarfile, "data_filter"):  # from Python 3.11.4 on, which mypy 1.0.1 doesn't know
+                archive.extractall(folder, filter="data")  # type: ignore[call-arg]
+            else:
+                archive.extractall(folder)
+    return folder / made[0].name.removesuffix(".tar.gz")
 
 
 def lay_repository(folder: Path, built: str) -> None:
@@ -411,6 +412,8 @@ def archive_commands(folder: Path, pages: dict[str, Page]) -> Iterator[tuple[str
     yield "README", readme_commands(folder)
     begin = [Command('export PATH="$PWD/bin:$PWD/tools:$PATH"; cd examples')]
     for stem, page in pages.items():
+        if stem == "handout":  # which has the commands of the lessons
+            continue
         commands = [*commands_of(page)]
         first = [command for command in commands if "export PATH" in command.text] or begin
         yield f"{stem}.html", [*first, *(command for command in commands if command not in first)]
@@ -460,7 +463,7 @@ def is_printed(built: str) -> str:
     """What is wrong with an archive that has PDF, or nothing."""
     with tempfile.TemporaryDirectory() as name:
         folder = make(["--lessons", "1", "--answers", "apart", "--pdf"], built, Path(name))
-        wanted = [folder / "docs" / f"{page}.pdf" for page in ("guide", "lessons", "answers")]
+        wanted = [folder / "docs" / f"{page}.pdf" for page in ("guide", "handout", "answers")]
         wanted += [Path(f"{folder}-{path.name}") for path in wanted]
         wrong = [path.name for path in wanted if not path.is_file() or path.read_bytes()[:5] != b"%PDF-"]
     return f"{wrong[0]} is no PDF" if wrong else ""

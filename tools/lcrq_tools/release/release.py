@@ -1,17 +1,22 @@
 """Makes the archive that is handed out: lcrqdb-VERSION-x86_64.tar.gz, with VERSION from
 `lcrqdb --version`.
 
-    python3 tools/release.py [-o FOLDER] [--lessons 5,14,15] [--answers with|apart|none] [--pdf] [--program P]
+    python3 tools/release.py [-o FOLDER] [--lessons 5,14,15] [--with-needed] [--answers with|apart|none]
+        [--worksheet] [--paper A4|Letter] [--pdf] [--program P]
 
 In it are the program, its man page made of docs/MANUAL.md, a page of HTML each for manual, recipes,
 model, guide and lessons with their pictures in them, the examples with a report of each script that
 one run has, and a page of the run, the scripts that the pages name with what they import, the JSON
 Schema of traces, and a README. `release_pages.py` makes the pages.
 
-`--lessons` leaves all other lessons out, and their examples. `--answers` has the answers to the
-exercises with them, apart on a page of their own, docs/answers.html, or not at all. `--pdf` also
-prints guide, lessons and answers, and the pages of runs of chosen lessons, into the archive and
-beside it; that takes Chromium or weasyprint.
+`--lessons` leaves all other lessons out, and their examples; `--with-needed` adds those that these
+need. `--answers` has the answers to the exercises with them, apart, or not at all. Apart they are on
+docs/answers.html in a second archive, which unpacks into the same folder. `--worksheet` empties the
+columns of the lessons' tables that a class fills in; what they had is with the answers.
+
+docs/handout.html has the lessons for paper, and *The queue* on two pages (`handout.py`). `--pdf` also
+prints it, guide and answers, and the pages of runs of chosen lessons, into the archive and beside it;
+that takes Chromium or weasyprint. The folder of `-o` is made first.
 
 The same commit, program and choice give the same bytes, those of a PDF left out: names are sorted,
 and the time of each file is that of the last commit. It needs pandoc (Debian's package pandoc). The
@@ -35,6 +40,7 @@ from lcrq_tools import entry, program
 from lcrq_tools.faults import Fault, Parser, say
 from lcrq_tools.options import add_program
 from lcrq_tools.program import EXAMPLES, TOP
+from lcrq_tools.release import handout
 from lcrq_tools.release.man_page import man_page
 from lcrq_tools.release.release_pages import (
     DOCS, HANDED_OUT, LESSONS, PORT, SCHEMA, Choice, Part, is_chosen, page_of,
@@ -44,7 +50,7 @@ TOOLS = TOP / "tools"
 BUILD = TOOLS / "lcrq_tools" / "release"
 COMPLETION = BUILD / "lcrqdb.bash"
 INSTALLED = (TOOLS / "pyproject.toml", BUILD / "__init__.py", BUILD / "wheel.py")  # by which pip installs the tools
-PRINTED = ("guide", "lessons", "answers")  # the pages that are made as PDF
+PRINTED = ("guide", "handout", "answers")  # the pages that are made as PDF
 BROWSERS = ("chromium", "chromium-browser", "google-chrome")
 
 # What a page says of how a script is run.
@@ -57,11 +63,12 @@ CONTENTS = """\
 bin/lcrqdb                the program, for Linux on x86-64; it needs the C library alone
 docs/guide.html           from a whiteboard to the step to blame, in 30 minutes: begin here
 docs/lessons.html         lessons{numbers} on concurrent queues, for teachers
+docs/handout.html         the lessons to print, with the queue on two pages
 docs/answers.html         the answers to their exercises
 docs/manual.html          every line and every reply; share/man/ has it as a man page
 docs/recipes.html         commands to print, draw and compare runs, and to write a start
 docs/model.html           the queue and the simulated machine
-docs/*.pdf                guide, lessons and answers to print; a PDF has other bytes each time that it is made
+docs/*.pdf                guide and handout to print; a PDF has other bytes each time that it is made
 docs/*.md                 what the scripts read of manual and model
 docs/trace.schema.json    a JSON Schema of traces, for an editor and for schema.py
 examples/                 the scripts and traces of these pages, with their pictures; each script that
@@ -237,8 +244,9 @@ def printer() -> list[str]:
     return [browser, "--headless", "--disable-gpu", *sandbox, "--no-pdf-header-footer"]
 
 
-def pdf_of(page: bytes) -> bytes:
-    """A page as PDF, with all that is folded unfolded."""
+def pdf_of(page: bytes, choice: Choice) -> bytes:
+    """A page as PDF on the chosen paper, with all that is folded unfolded."""
+    page = page.replace(b"<style>", f"<style>\n@page {{ size: {choice.paper}; }}".encode(), 1)
     words = printer()
     with tempfile.TemporaryDirectory() as folder:
         html, out = Path(folder) / "page.html", Path(folder) / "page.pdf"
@@ -253,8 +261,8 @@ def pdf_of(page: bytes) -> bytes:
 def printed_of(files: dict[str, bytes], choice: Choice) -> list[str]:
     """The pages that are printed: those for readers, and where lessons are chosen those of their runs,
     which a script draws, and so a browser alone."""
-    pages = [f"docs/{page}.html" for page in PRINTED if page in choice.pages()]
-    is_drawn = not choice.is_all and printer()[0] != "weasyprint"
+    pages = [f"docs/{page}.html" for page in PRINTED if f"docs/{page}.html" in files]
+    is_drawn = not choice.is_all and not choice.worksheet and printer()[0] != "weasyprint"
     return pages + [name for name in sorted(files) if is_drawn and re.match(r"examples/\d.*\.html", name)]
 
 
@@ -300,8 +308,9 @@ def files_of(built: str, version: str, seconds: int, choice: Choice, with_pdf: b
     files |= scripts | pages_read_by(scripts, choice)
     files |= {str(path.relative_to(TOP)): path.read_bytes() for path in INSTALLED}
     files |= {f"examples/{name}": data for name, data in examples.items()}
+    files["docs/handout.html"] = handout.page_of(version, choice)
     if with_pdf:
-        files |= {f"{name.removesuffix('html')}pdf": pdf_of(files[name]) for name in printed_of(files, choice)}
+        files |= {f"{name.removesuffix('html')}pdf": pdf_of(files[name], choice) for name in printed_of(files, choice)}
     files["share/man/man1/lcrqdb.1"] = man_page(version, seconds, choice)
     files["share/bash-completion/completions/lcrqdb"] = COMPLETION.read_bytes()
     files |= {"bin/lcrqdb": Path(built).read_bytes(), f"docs/{SCHEMA.name}": SCHEMA.read_bytes()}
@@ -339,15 +348,17 @@ def parser() -> Parser:
     add("--lessons", type=lessons_in, default=tuple(LESSONS), metavar="N,N..", help="these lessons alone")
     about = "where the answers to exercises are: with them (so if left out), apart on a page, or nowhere"
     add("--answers", choices=("with", "apart", "none"), default="with", help=about)
-    add("--pdf", action="store_true", help="print guide, lessons and answers, too")
+    add("--pdf", action="store_true", help="print guide, handout and answers, too")
+    handout.add_options(parser)
     add_program(parser)
     return parser
 
 
-def write(out: Path, name: str, files: dict[str, bytes], seconds: int) -> None:
-    """Writes the archive of this name, and beside it what is printed; prints the path of each."""
-    made = {f"{name}.tar.gz": archive_of(files, name, seconds)}
-    made |= {f"{name}-{Path(path).name}": data for path, data in files.items() if path.endswith(".pdf")}
+def write(out: Path, folder: str, files: dict[str, bytes], seconds: int) -> None:
+    """Writes the archives of this folder's name, and beside them what is printed; prints the path of each."""
+    archives = handout.archives_of(folder, files)
+    made = {f"{name}.tar.gz": archive_of(own, folder, seconds) for name, own in archives.items()}
+    made |= {f"{folder}-{Path(path).name}": data for path, data in files.items() if path.endswith(".pdf")}
     for path, data in made.items():
         (out / path).write_bytes(data)
         print(out / path)
@@ -360,11 +371,15 @@ def main() -> int:
         raise Fault("the pages are made by pandoc: install Debian's package pandoc")
     if given.pdf:
         printer()
+    choice, out = handout.choice_of(given), Path(given.folder)
+    out.mkdir(parents=True, exist_ok=True)
+    if lacks := handout.lacks_of(choice.lessons):
+        say(lacks)
     built: str = given.program
-    choice, version, seconds = Choice(given.lessons, given.answers), version_of(built), last_commit()
+    version, seconds = version_of(built), last_commit()
     files = files_of(built, version, seconds, choice, given.pdf)
     if program.is_unproved(files["bin/lcrqdb"]):
         say(f"{built} is not proved: this archive is to try out")
     chosen = "" if choice.is_all else "-lessons-" + "-".join(map(str, choice.lessons))
-    write(given.folder, f"lcrqdb-{version}-x86_64{chosen}", files, seconds)
+    write(out, f"lcrqdb-{version}-x86_64{chosen}", files, seconds)
     return 0

@@ -21,11 +21,13 @@ from collections.abc import Callable, Iterator
 from dataclasses import dataclass
 from pathlib import Path
 from string import Template
-from typing import Any, NotRequired, TypedDict
+from typing import TypedDict
 
 from lcrq_tools import program
 from lcrq_tools.faults import Fault
 from lcrq_tools.program import EXAMPLES, TOP
+from lcrq_tools.release.elements import Element, Json, element, elements_in, text_in
+from lcrq_tools.release.worksheet import key_of, numbered, worksheet_of
 
 DOCS = TOP / "docs"
 SCHEMA = DOCS / "trace.schema.json"
@@ -46,6 +48,8 @@ class Choice:
 
     lessons: tuple[int, ...]
     answers: str  # "with" each exercise, "apart" on a page of their own, or "none"
+    worksheet: bool = False  # whether the columns of the lessons' tables are empty
+    paper: str = "A4"
 
     @property
     def is_all(self) -> bool:
@@ -88,14 +92,6 @@ def read_for(choice: Choice, source: Path) -> str:
 # ---- Documents -----------------------------------------------------------------------------------
 
 PLAIN = ["", [], []]  # the attributes of an element without any
-Json = Any  # a part of a document, as pandoc writes it: what an element has is another thing for each kind
-
-
-class Element(TypedDict):
-    """An element of a document: its kind, and what it has."""
-
-    t: str
-    c: NotRequired[Json]
 
 
 class Document(TypedDict):
@@ -122,29 +118,6 @@ def changed(value: Json, change: Callable[[Element], Element]) -> Json:
     return change(inside) if "t" in inside else inside
 
 
-def elements_in(value: Json) -> Iterator[Json]:
-    """The elements of a part of a document, outer ones first."""
-    if isinstance(value, dict):
-        yield value
-        value = value.get("c")
-    for part in value if isinstance(value, list) else []:
-        yield from elements_in(part)
-
-
-def text_in(value: Json) -> str:
-    """The text of a part of a document."""
-    text = ""
-    for part in elements_in(value):
-        if part["t"] in ("Str", "Code"):
-            text += part["c"] if part["t"] == "Str" else part["c"][1]
-        elif part["t"] in ("Space", "SoftBreak", "LineBreak"):
-            text += " "
-    return text
-
-
-def element(kind: str, *content: Json) -> Element:
-    """An element of a document."""
-    return {"t": kind, "c": [*content]}
 
 
 def span(inlines: list[Element]) -> Element:
@@ -273,8 +246,7 @@ class Part:
                 return element("Code", ["", ["short"] if len(text) <= SHORT else [], []], text)
             case {"t": "CodeBlock", "c": [[_, classes, _], text]}:
                 return element("CodeBlock", ["", [], [["language", *classes]] if classes else []], text)
-        unchanged: Element = part
-        return unchanged
+        return numbered(part)
 
     def blocks(self) -> list[Element]:
         """Its blocks on the page of the archive."""
@@ -284,8 +256,10 @@ class Part:
         blocks: list[Element] = changed(whole, self.for_page)
         is_lesson = self.source in LESSONS.values()
         if self.page == "answers":
-            return answers_in(blocks)
-        return without_answers(blocks) if is_lesson and self.choice.answers != "with" else blocks
+            key = key_of(blocks) if self.choice.worksheet else []
+            return [blocks[0], *key, *answers_in(blocks)[1:]]
+        blocks = without_answers(blocks) if is_lesson and self.choice.answers != "with" else blocks
+        return worksheet_of(blocks) if is_lesson and self.choice.worksheet else blocks
 
 
 LINK = re.compile(r"(!?)\[([^][]*)\]\(([^()\s]+)\)")
