@@ -10,7 +10,8 @@ the pseudo-code of docs/MODEL.md with the actors at their lines. The right and t
 line on and back, Home and End to the ends; a slider and a click on a line do too. `#line=14` in the
 address leads to a moment. `copy` gives the command that shows the same by the program. Printed it
 is a handout: lines with replies, and the queue at each bookmark, or at the end. On the page of a history
-each line and each step has the mark of the viewer who asked it.
+each line and each step has the mark of the viewer who asked it. `--slides 12,14,20` makes slides of
+these lines, for a class (`slides.py`).
 
 Each fact is a reply of the program to a line of a script: this is a client of its text interface.
 The same input gives the same bytes.
@@ -28,7 +29,7 @@ from lcrq_tools.draw.figure import ACTORS, kind_of, script_name, write_drawn
 from lcrq_tools.draw.lanes import actor_of
 from lcrq_tools.faults import Fault
 from lcrq_tools.options import run_parser
-from lcrq_tools.page import page_lanes, page_moments, page_parts
+from lcrq_tools.page import page_lanes, page_moments, page_parts, slides
 from lcrq_tools.page.page_lanes import Lanes
 from lcrq_tools.page.page_viewers import Marks
 from lcrq_tools.page.run_rows import Rows, filled_rows
@@ -121,7 +122,8 @@ def page_of(arguments: argparse.Namespace) -> tuple[str, str]:
     count = len(asked.lines) - asked.first
     if count > MOST_LINES:
         raise Fault(f"{count} lines are too many for a page: --lines A:B takes {MOST_LINES} of them, as 1:{MOST_LINES}")
-    return made_of(arguments, asked, states_of(asked)), asked.session.refused
+    states = states_of(asked)
+    return slides.slides_of(made_of(arguments, asked, states), arguments.slides, states), asked.session.refused
 
 
 def drawing_of(arguments: argparse.Namespace, asked: Asked, states: list[State], rows: Rows, above: int) -> Lanes:
@@ -191,8 +193,9 @@ def part_of(text: str) -> tuple[int, int]:
 def parser() -> argparse.ArgumentParser:
     """The command line."""
     parser = run_parser(__doc__, "session.script -o run.html", "OUT.html")
-    options = "[-o OUT.html] [--lines A:B] [--actors A] [--ring R] [--trace FILE] [--refused] [--program P]"
-    parser.usage = f"%(prog)s (SCRIPT | --history FILE) {options}"
+    options = "[-o OUT.html] [--lines A:B] [--slides N,N..] [--actors A] [--ring R] [--trace FILE] [--refused]"
+    parser.usage = f"%(prog)s (SCRIPT | --history FILE) {options} [--program P]"
+    slides.add_option(parser)
     parser.add_argument("--lines", dest="part", metavar="A:B", type=part_of, help="the lines A to B in place of all")
     return parser
 
