@@ -33,6 +33,8 @@ COMMANDS = (
     "python3 tools/check.py ports",
     "python3 tools/check.py statuses",
     "python3 tools/check.py exercises",
+    "python3 tools/check.py sentences",
+    "python3 tools/check.py prompt",
     "python3 tools/check.py conversation",
     "python3 tools/check.py refused_memory back",
 )
