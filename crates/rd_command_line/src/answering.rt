@@ -167,20 +167,14 @@ where
 fn counted(count: Result<u64, ProgramFault>) -> Result<Done, ProgramFault>
     ensures { result ≡ counted count }
 {
-    match count {
-        Ok(count) => Ok(Done::Counted(count)),
-        Err(fault) => Err(fault),
-    }
+    Ok(Done::Counted(count?))
 }
 
 /// Returns what was done, from how viewers ended that were there at once.
 fn lived(ends: Result<Vec<ViewerEnd>, ProgramFault>) -> Result<Done, ProgramFault>
     ensures { result ≡ lived ends }
 {
-    match ends {
-        Ok(ends) => Ok(Done::Lived(ends)),
-        Err(fault) => Err(fault),
-    }
+    Ok(Done::Lived(ends?))
 }
 
 /// Runs the script on the input if the name is `-`, else the script in the file of this name,

@@ -25,7 +25,7 @@ use std::env::{self, Env};
 use std::io;
 
 /// The version that `--version` shows.
-const VERSION: &str = "0.1.0";
+const VERSION: &str = "0.2.0";
 
 /// The numbers of cells that a ring may have, as the command line spells them.
 static RINGS: [&str; 3] = ["2", "4", "8"];

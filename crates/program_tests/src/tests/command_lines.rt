@@ -310,9 +310,9 @@ const ROWS: &[(&[&str], Wanted)] = &[
     ),
     (
         &["lcrqdb", "--version"],
-        Wanted::Shown("lcrqdb 0.1.0\n", ""),
+        Wanted::Shown("lcrqdb 0.2.0\n", ""),
     ),
-    (&["lcrqdb", "-V"], Wanted::Shown("lcrqdb 0.1.0\n", "")),
+    (&["lcrqdb", "-V"], Wanted::Shown("lcrqdb 0.2.0\n", "")),
 ];
 
 /// Command lines that are mistakes.

@@ -28,7 +28,7 @@ const ENDS: &[(&[&str], usize, u8, &str, &str)] = &[
         "Does the lines of a script..",
         "",
     ),
-    (&["lcrqdb", "--version"], 0, 0, "lcrqdb 0.1.0\n..", ""),
+    (&["lcrqdb", "--version"], 0, 0, "lcrqdb 0.2.0\n..", ""),
     // A mistake goes to standard error.
     (&["lcrqdb"], 0, 2, "", "error: .."),
     (&["lcrqdb", "walk"], 0, 2, "", "error: .."),
