@@ -2,7 +2,7 @@
 
     python3 tools/check.py viewers [--runs N]
 
-The program in `viewers.rt` is written into a temporary folder beside a copy of the crates, and `rt try`
+The program in `viewers.rattle` is written into a temporary folder beside a copy of the crates, and `rt try`
 builds and runs it there; it is not proved. In each run 64 viewers ask 1,560 commands each in threads of their
 own, some of which may be refused. Then the history of the closed desk is replayed over a fresh
 book: every answer has to come again, and the calls of each viewer are in its order. Last, one
@@ -22,7 +22,7 @@ from lcrq_tools.faults import Parser
 USES = "rd_step rd_journal rd_marks rd_lock rd_desk".split()
 BELOW = "rd_cell rd_ring rd_actor rd_segments rd_inverse rd_depend rd_origin".split() + USES
 
-PROGRAM = Path(__file__).with_suffix(".rt")
+PROGRAM = Path(__file__).with_suffix(".rattle")  # `rt ci` takes a file that ends with .rt for one of a crate
 
 
 def main() -> int:
