@@ -13,7 +13,9 @@ from lcrq_tools.faults import FAULTS, text_of
 from lcrq_tools.page import page
 from lcrq_tools.port.port_compare import NEEDS_CHOICE, Comparison, Difference
 from lcrq_tools.program import script_of
-from lcrq_tools.records import Cell, Place, content_of
+from lcrq_tools.records import Actor, Cell, Place, Step, content_of
+from lcrq_tools.speak.sentences import sentence
+from lcrq_tools.speak.teller import asked_of, seen_of
 from lcrq_tools.start import starts
 from lcrq_tools.start.starts import Trace
 
@@ -116,6 +118,17 @@ class About:
         did = step.did() if step.reply else step.did().removesuffix("; -")
         return f"step {number}, `{line}` at {point}: {did}"
 
+    def meaning(self, number: int, step: Step) -> Iterator[str]:
+        """What a step did in words, by its number in the log; nothing of one before the start. The run goes there
+        and back: to a step that it made, or to the model's next one."""
+        later, own = self.replay.count() - number, f"actor {step.event.actor}"
+        if number <= self.replay.before or not step.place:
+            return
+        there, back = [f"back {later + 1}"] * (later >= 0), [f"forward {later}" if later >= 0 else "back 1"]
+        lines = [*there, own, "forward 1", own, *asked_of(step), *back]
+        before, _, after, *about = self.replay.ask(lines)[len(there): -1]
+        yield sentence(seen_of(step, Actor.read(before), Actor.read(after), about))
+
     def code(self, label: str) -> Iterator[str]:
         """The lines of the pseudo-code of a control point."""
         for number, text in enumerate(self.code_lines.get(label, [])):
@@ -127,6 +140,8 @@ class About:
         own = int(number) - self.replay.first if word == "writer" and number.isdecimal() else 0
         writer = self.replay.before + own if own > 0 else 0
         yield f"{place} was written by {self.step_text(writer) if writer else 'no step of this run'}"
+        if writer:
+            yield from (f"  {words}" for words in self.meaning(writer, self.replay.steps[writer - 1][1]))
         steps = self.replay.steps
         later = range((writer or self.replay.before) + 1, len(steps) + 1)
         since = [number for number in later if steps[number - 1][1].place.overlaps(place)]
@@ -141,9 +156,11 @@ class About:
         yield f"  port   {record.where}: `{record.text}`"
         if self.last:
             yield f"  before {self.step_text(self.last)}"
+            yield from (f"         {words}" for words in self.meaning(self.last, self.replay.steps[self.last - 1][1]))
             yield from self.code(self.last_point)
         if found.made:
             yield f"  model  at {found.point}: {found.made.did()}"
+            yield from (f"         {words}" for words in self.meaning(found.step, found.made))
         yield from self.code(found.point) if found.point != self.last_point else ()
         yield f"  words  {found.state}"
         for place in self.places():

@@ -170,3 +170,13 @@ def sentence(seen: Seen) -> str:
     """What a step did, behind its control point; of a call that begins, without one."""
     point = seen.before.point
     return did(seen) if point == IDLE else f"{point}: {did(seen)}"
+
+
+def of_actor(seen: Seen) -> str:
+    """What a step did, behind its actor."""
+    return f"actor {seen.step.event.actor}{' ' if seen.before.point == IDLE else ', '}{sentence(seen)}"
+
+
+def of_step(seen: Seen) -> str:
+    """What a step did, behind its number and its actor."""
+    return f"step {seen.step.number}, {of_actor(seen)}"

@@ -192,6 +192,35 @@ def answered(line: str, answer: Reply) -> str:
     return ""
 
 
+# ---- What is asked about a step ----------------------------------------------------------------------
+
+
+def asked_of(step: Step) -> list[str]:
+    """What is asked about a step right behind it."""
+    writer = [f"writer {step.place}"] if step.answer == "lost" else []
+    return [f"show {step.place}", *writer] if step.place else []
+
+
+def reader_of(steps: Sequence[Step], step: Step) -> int:
+    """The number of the step, among these, in which a step's actor read what it compares with; 0 if none did."""
+    place = step.place.half("value") if step.place.kind == "cell" else step.place
+    own = (
+        number for number in range(min(step.number - 1, len(steps)), 0, -1)
+        if steps[number - 1].event.actor == step.event.actor and steps[number - 1].place == place
+    )
+    return next(own, 0)
+
+
+def seen_of(step: Step, before: Actor, after: Actor, about: Sequence[str], steps: Sequence[Step] = ()) -> Seen:
+    """A step with what is around it: its actor, the replies to `asked_of`, and the steps of the run. Without these
+    no other step is named, as where steps have other numbers later."""
+    shown = content_of(about[0]) if about else ""
+    if step.answer != "lost" or not steps:
+        return Seen(step, before, after, shown)
+    writer = about[1].removeprefix("writer ")
+    return Seen(step, before, after, shown, reader_of(steps, step), int(writer) if writer.isdecimal() else 0)
+
+
 # ---- A session in words ---------------------------------------------------------------------------
 
 
@@ -237,22 +266,16 @@ class Teller:
         made, stand = self.ask_all([f"step {number}", f"actor {mover}"])
         step, after = Step.read(made), Actor.read(stand)
         self.live[number - 1:] = [step]
-        if not step.place:
-            return Seen(step, before, after)
-        if step.answer != "lost":
-            return Seen(step, before, after, content_of(self.ask(f"show {step.place}")))
-        shown, wrote = self.ask_all([f"show {step.place}", f"writer {step.place}"])
-        writer = wrote.removeprefix("writer ")
-        return Seen(step, before, after, content_of(shown), self.read_by(step), int(writer) if writer.isdecimal() else 0)
+        asked = asked_of(step)
+        return seen_of(step, before, after, self.ask_all(asked) if asked else [], self.live)
 
-    def read_by(self, step: Step) -> int:
-        """The number of the step in which the last step's actor read what it compares with; 0 if none did."""
-        place = step.place.half("value") if step.place.kind == "cell" else step.place
-        own = (
-            number for number in range(len(self.live) - 1, 0, -1)
-            if self.live[number - 1].event.actor == step.event.actor and self.live[number - 1].place == place
-        )
-        return next(own, 0)
+    def last(self) -> Seen | None:
+        """The last live step, if there is one, which is taken back and made again."""
+        if not self.live:
+            return None
+        mover = self.live[-1].event.actor
+        before = self.ask_all(["back 1", f"actor {mover}", "forward 1"])[1]
+        return self.seen(len(self.live), mover, Actor.read(before))
 
     # What changes the live steps without making a new one.
 

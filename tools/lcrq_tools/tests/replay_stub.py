@@ -35,6 +35,7 @@ ENQUEUE: list[Made] = [
     ("go 1", "index 0.0 0; read; 1 0; -", actor("E8", safe=1)),
     ("go 1", "cell 0.0 0; wrote; won; enqueued", IDLE),
 ]
+AFTER = {"show tail 0.0 after 4": "is open 1"}  # what is at a place behind one of these steps
 # The log of a port that does the same, with names of its own.
 LOG = [
     "1 1 enq 7",
@@ -61,7 +62,7 @@ class Told(Replay):
     def __init__(
         self, steps: Sequence[Made] = ENQUEUE, shown: Mapping[str, str] = {}, forks: Mapping[str, list[Made]] = {}
     ) -> None:
-        self.listed, self.shown, self.forks = [*steps], shown, forks
+        self.listed, self.shown, self.forks = [*steps], {**AFTER, **shown}, forks
         self.made = 0  # how many of them are live
         self.asked: list[str] = []
         self.opened: list[Trace] = []  # starts, over which it went on
@@ -80,7 +81,7 @@ class Told(Replay):
         word, _, rest = line.partition(" ")
         match word:
             case "show":
-                return self.shown.get(line, "refused 19 NoSuchPlace")
+                return self.shown.get(f"{line} after {self.made}", self.shown.get(line, "refused 19 NoSuchPlace"))
             case "writer":
                 return self.writer_of(rest)
             case "actor":

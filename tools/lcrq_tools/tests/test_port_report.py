@@ -98,8 +98,10 @@ class Texts(unittest.TestCase):
             "  port   a.log:4: `4 1 E4 tail root; wrote; open 5`",
             "  before step 3, `go 1` at E2: next 0.0; read; none",
         ])
-        self.assertEqual(text[3], f"         E2   {code['E2'][0]}")
+        self.assertEqual(text[3], "         E2: reads which segment follows 0.0: none, so 0.0 is the last")
+        self.assertEqual(text[4], f"         E2   {code['E2'][0]}")
         self.assertIn("  model  at E4: tail 0.0; wrote; open 0; -", text)
+        self.assertIn("         E4: adds 1 to the tail of ring 0.0, 0 → 1: actor 1 has position 0", text)
         self.assertIn(f"         E4   {code['E4'][0]}", text)
         self.assertIn(f"  words  {actor('E4')}", text)
         self.assertEqual(text[-3:], [
@@ -112,6 +114,7 @@ class Texts(unittest.TestCase):
         made = about(*LOG, "8 1 empty")
         self.assertEqual([*made.touched(Place.read("tail 0.0"))], [
             "tail 0.0 was written by step 4, `go 1` at E4: tail 0.0; wrote; open 0",
+            "  E4: adds 1 to the tail of ring 0.0, 0 → 1: actor 1 has position 0",
         ])
         self.assertEqual([*made.touched(Place.read("whole 0.0"))], [
             "whole 0.0 was written by no step of this run",

@@ -6,7 +6,7 @@ import unittest
 from lcrq_tools import model
 from lcrq_tools.program import TOP
 from lcrq_tools.records import Actor, Step
-from lcrq_tools.speak.sentences import IDLE, POINTS, SENTENCES, Seen, sentence
+from lcrq_tools.speak.sentences import IDLE, POINTS, SENTENCES, Seen, of_actor, of_step, sentence
 from lcrq_tools.speak.teller import Teller, numbers_words
 
 WORDS = "crq {crq} new 0.0 next {next} t {t} h {h} closed {closed} val {val} safe {safe} idx {idx} pass 0"
@@ -64,6 +64,12 @@ class Sentences(unittest.TestCase):
         after = Actor.read("actor E14 enq 7 crq 0.0 new 5.0 next 0.0 t 0 h 0 closed 0 val none safe 0 idx 0 pass 0")
         self.assertEqual("E13: CAS won: links 5.0 behind 0.0",
                          said("step 9; go 5; next 0.0; wrote; won; -", before, after, "5.0"))
+
+    def test_a_step_is_named_by_its_number_and_its_actor(self) -> None:
+        drew = Seen(Step.read("step 4; go 2; tail 0.0; wrote; open 0; -"), actor("E4 enq 7"), actor("E5 enq 7"), "open 1")
+        self.assertEqual("step 4, actor 2, E4: adds 1 to the tail of ring 0.0, 0 → 1: actor 2 has position 0", of_step(drew))
+        began = Seen(Step.read("step 3; deq 2; -; none; -; -"), actor("Idle none"), actor("Q1 deq"))
+        self.assertEqual("actor 2 begins to dequeue", of_actor(began))
 
     def test_a_step_that_ends_a_call_says_its_result(self) -> None:
         before = actor("Q5 deq", val="7", safe="1")
