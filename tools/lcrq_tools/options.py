@@ -89,7 +89,7 @@ def world_of(draft: drafts.Draft, name: str) -> dict[str, object]:
         raise Fault(f"{name}, `{drafts.RUN_WITH}{' '.join(draft.options)}`: {fault}") from fault
 
 
-def settled(parser: Parser, words: Sequence[str] | None = None) -> argparse.Namespace:
+def settled(parser: argparse.ArgumentParser, words: Sequence[str] | None = None) -> argparse.Namespace:
     """The command line of a tool that takes a script. A draft brings the options of its world along, and it is
     said how it is run; an option that differs from them is a fault."""
     arguments = parser.parse_args(words)

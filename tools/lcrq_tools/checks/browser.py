@@ -187,13 +187,14 @@ class Walk:
         return fault or self.dependants_fault() or self.handout_fault()
 
     def handout_fault(self) -> str:
-        """What is wrong with the handout, or nothing: the queue at each bookmark, or at the end."""
+        """What is wrong with the handout, or nothing: the queue at each bookmark, and at the line that is shown,
+        which is the last one."""
         moments = [self.moment(line) for line in range(self.count + 1)]
         wanted = []
-        for moment in [moment for moment in moments if moment.reply.startswith("marked ")] or moments[-1:]:
+        for moment in [*(moment for moment in moments[:-1] if moment.reply.startswith("marked ")), moments[-1]]:
             values = {place: content for place, content in moment.contents.items() if place.startswith("value ")}
             texts = {place: "" if content == "none" else content for place, content in values.items()}
-            wanted.append([f"After line {moment.line}, {moment.begin}: {moment.reply}", texts])
+            wanted.append([f"Line {moment.line}, {moment.begin}: {moment.reply}. {moment.told}.", texts])
         figures = self.browser.ask("handout()")
         if figures != wanted:
             return f"the handout has {figures}, wanted {wanted}"

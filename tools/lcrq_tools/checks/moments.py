@@ -9,6 +9,7 @@ actor's next step; of each pin, that it is at that place.
 
 import argparse
 import re
+from collections.abc import Sequence
 from dataclasses import dataclass, field
 from typing import NamedTuple
 from xml.etree import ElementTree
@@ -17,7 +18,8 @@ from lcrq_tools import model
 from lcrq_tools.checks import replies
 from lcrq_tools.checks.replies import Call, Replies
 from lcrq_tools.draw import figure
-from lcrq_tools.records import Place, is_made
+from lcrq_tools.records import Place, Step, is_made
+from lcrq_tools.speak.sentences import of_step
 
 SVG = "{http://www.w3.org/2000/svg}"
 
@@ -174,6 +176,14 @@ def pins_fault(drawn: Drawn) -> str:
     return ""
 
 
+def last_fault(svg: str, session: figure.Session, steps: Sequence[Step]) -> str:
+    """What is wrong with the words of the last live one of these steps, or nothing."""
+    seen = replies.seen_along(session.words, steps[: session.live])
+    said = of_step(seen[-1]) if seen else "no step yet"
+    texts = {label.text for label in ElementTree.fromstring(svg).iter(f"{SVG}text")}
+    return "" if said in texts else f"it doesn't say `{said}`"
+
+
 def faults_of(svg: str, arguments: argparse.Namespace) -> str:
     """The first thing that is wrong with a moment, but for its labels' boxes, or nothing."""
     drawn, session = read(svg), figure.Session(arguments)
@@ -188,4 +198,5 @@ def faults_of(svg: str, arguments: argparse.Namespace) -> str:
         or counters_fault(drawn, session.ring)
         or chips_fault(drawn, asked)
         or pins_fault(drawn)
+        or last_fault(svg, session, asked.steps)
     )

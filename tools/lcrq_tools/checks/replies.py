@@ -9,12 +9,15 @@ import itertools
 import json
 import tempfile
 from collections.abc import Callable, Collection, Iterable, Iterator, Mapping, Sequence
+from dataclasses import replace
 from typing import Any, NamedTuple
 
 from lcrq_tools import program
 from lcrq_tools.draw.figure import Session
 from lcrq_tools.faults import Fault
-from lcrq_tools.records import Place, Step, content_of, is_made
+from lcrq_tools.records import Actor, Counts, Place, Step, content_of, is_made
+from lcrq_tools.speak.sentences import Seen, of_actor, of_step
+from lcrq_tools.speak.teller import Teller, asked_of, seen_of
 
 TRACE = "--trace"
 SLOTS = 64  # of the array
@@ -183,9 +186,36 @@ class Replies:
         return "" if call.place == wanted else f"actor {actor} would touch {call.place}, wanted {wanted} by {reply}"
 
 
-def lacks(label: str, step: Step) -> bool:
-    """Whether the words of a row lack something of its step."""
-    words = [f"actor {step.event.actor}"]
-    words += [f" {step.access} {step.place}: {step.answer}"] if step.place else [step.event.called()]
-    words += [f"the call replies {step.reply}"] if step.reply else []
-    return not all(word in label for word in words)
+# ---- What a drawing says ---------------------------------------------------------------------------
+
+
+def seen_along(words: list[str], steps: Sequence[Step]) -> list[Seen]:
+    """The steps of a run of these words, each with what is around it: its events are made anew, one by one."""
+    parts = []
+    for step in steps:
+        stand = f"actor {step.event.actor}"
+        parts.append([stand, str(step.event), stand, *asked_of(step)])
+    with program.Driven(words) as driven:
+        driven.ask_all([f"back {Counts.read(driven.ask('len')[0]).live}"])
+        replies = iter(driven.ask_all([*itertools.chain(*parts)]))
+    found = []
+    for step, part in zip(steps, parts):
+        before, made, after, *about = itertools.islice(replies, len(part))
+        if not is_made(made):
+            raise Fault(f"step {step.number} is answered {made} when it is made anew")
+        found.append(seen_of(step, Actor.read(before), Actor.read(after), about, steps))
+    return found
+
+
+def labels_along(words: list[str], steps: Sequence[Step]) -> list[str]:
+    """What the rows of these steps say on a page, where no other step is named."""
+    return [of_actor(replace(seen, read=0, writer=0)) for seen in seen_along(words, steps)]
+
+
+def told_by(words: list[str], lines: Sequence[str]) -> list[str]:
+    """What each of these lines did, as a page says it behind its reply."""
+    with program.Driven(words) as driven:
+        teller = Teller(driven.ask_all)
+        spoken = [teller.tell(line) for line in lines]
+    texts = [of_step(each.seen) if each.seen else each.sentence.removeprefix("refused: ") for each in spoken]
+    return [f"{text[:1].upper()}{text[1:]}" for text in texts]

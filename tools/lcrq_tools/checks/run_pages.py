@@ -131,14 +131,14 @@ def actors_fault(state: State, asked: Replies) -> str:
     })
 
 
-def rows_fault(data: Data, state: State, labels: dict[int, str], asked: Replies) -> str:
-    """Which step isn't as the program replies, or nothing."""
+def rows_fault(data: Data, state: State, labels: dict[int, str], asked: Replies, words: list[str]) -> str:
+    """Which step isn't as a run of these words replies, or nothing."""
     counts = state["live"], len(state["rows"]) - state["live"]
     if counts != (asked.live, asked.undone):
         return f"{counts} steps are live and undone, and {asked.live} and {asked.undone} as the program replies"
-    steps = list(zip(state["rows"], asked.steps))[data["above"]:]
-    wrong = ((row, step) for row, step in steps if replies.lacks(labels[row], step))
-    return next((f"row {row} is {labels[row]}, and the program replies {step}" for row, step in wrong), "")
+    steps = list(zip(state["rows"], replies.labels_along(words, asked.steps)))[data["above"]:]
+    wrong = ((row, label) for row, label in steps if re.sub(r"^viewer \d+, ", "", labels[row]) != f"{label}.")
+    return next((f"row {row} is {labels[row]}, wanted {label}" for row, label in wrong), "")
 
 
 def state_fault(text: str, arguments: argparse.Namespace, each: int) -> str:
@@ -148,19 +148,20 @@ def state_fault(text: str, arguments: argparse.Namespace, each: int) -> str:
     names, rooms = places_wanted(states, run.session.ring), re.findall(r'data-name="([^"]*)"', text)
     segments = {Place.read(place).segment for place in names} - {""}
     slots = [place for place in names if place.startswith("a")]
+    told, given = replies.told_by(run.session.words, run.lines), run.session.replies_to(run.lines)
     for index in sorted({*range(0, len(states), each), len(states) - 1}):
         state, line = states[index], data["first"] + index
         session = run.at(line)
         trace = replies.trace_of(session)
         with replies.loaded(arguments.program, trace) as ask:
             asked = Replies(ask, session, segments | replies.segments_of(trace), slots)
-        said = run.text(line) if index else f"{asked.live} live steps"
+        said = f"{run.text(line)}: {given[line - 1]}. {told[line - 1]}" if index else f"{asked.live} live steps"
         fault = (
             places_fault(state, asked, names)
             or room_fault(state, rooms)
             or actors_fault(state, asked)
-            or rows_fault(data, state, labels, asked)
-            or ("" if said in state["said"] else f"it says {state['said']}")
+            or rows_fault(data, state, labels, asked, session.words)
+            or ("" if said in state["said"] else f"it says {state['said']}, wanted {said}")
         )
         if fault:
             return f"line {line}: {fault}"

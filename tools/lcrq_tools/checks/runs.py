@@ -11,6 +11,7 @@ import itertools
 import json
 import re
 from collections.abc import Sequence
+from dataclasses import replace
 from pathlib import Path
 from xml.etree import ElementTree
 from xml.etree.ElementTree import Element
@@ -19,6 +20,7 @@ from lcrq_tools import dependence
 from lcrq_tools.checks import moments, replies
 from lcrq_tools.draw import figure, picture
 from lcrq_tools.records import Step
+from lcrq_tools.speak.sentences import of_actor
 
 SVG = "{http://www.w3.org/2000/svg}"
 HIGH, LOW = 0.8, 0.22  # how far a letter reaches above and below its line, as a part of its size
@@ -309,8 +311,20 @@ def viewers_fault(drawn: Drawn, run: Run) -> str:
     words = [text for _, text in drawn.texts if text.startswith("viewer ")]
     if drawn.legend != named or words != [f"viewer {viewer}" for viewer in named]:
         return f"its legend has the viewers {drawn.legend}, and says {words}"
-    said = re.findall(r"(?:\b\d+|undone): (?:viewer (\d+), )?actor ", drawn.about)
-    return "" if [int(viewer or 0) for viewer in said] == wanted else f"its description has the viewers {said}"
+    return about_fault(drawn, run, wanted)
+
+
+def about_fault(drawn: Drawn, run: Run, viewers: Sequence[int]) -> str:
+    """Which step isn't said as the program replies it, or nothing. These viewers asked those that are drawn."""
+    seen, end = replies.seen_along(run.session.words, [*map(Step.read, run.records)]), 0
+    for number, viewer in zip(run.drawn(), viewers):
+        asker, own = f"viewer {viewer}, " if viewer else "", seen[number - 1]
+        live = f"Step {number}, {asker}{of_actor(own)}"
+        undone = f"Undone, {asker}{of_actor(replace(own, read=0, writer=0))}"
+        said = live if number <= run.live else undone
+        if (end := drawn.about.find(said, end)) < 0:
+            return f"its description lacks `{said}`"
+    return ""
 
 
 # ---- Lanes ----------------------------------------------------------------------------------------

@@ -5,7 +5,6 @@ page, and name the first thing that isn't as the program replies.
 """
 
 import itertools
-import re
 from typing import Any
 
 from lcrq_tools.checks import replies
@@ -28,6 +27,8 @@ class Moment(replies.Replies):
         if line:
             self.text, self.reply = run.text(line), session.replies_to([])[-1]
             self.viewer = f"viewer {session.viewers[-1]}" if session.viewers else ""
+        self.labels = replies.labels_along(session.words, self.steps)
+        self.told = replies.told_by(session.words, session.lines)[-1] if line else ""
         self.begin = f"{self.viewer}, {self.text}" if self.viewer else self.text  # how the line is named in words
 
 
@@ -117,10 +118,11 @@ def rows_fault(shown: Shown, asked: Moment) -> str:
         return f"the rows are {found}, and {live} steps are live and {asked.undone} undone"
     if sum(row["stops"] for row in rows) != (1 if rows else 0):
         return "the tab key does not come to one row"
-    for row, step in zip(rows, asked.steps):
-        said = re.fullmatch(r"\w+(?: \d+)?: (?:(viewer \d+), )?actor .*", row["about"])
-        if not said or replies.lacks(row["about"], step) or (said[1] or "") != row["viewer"]:
-            return f"row {row['number']} is {row['about']}, and the program replies {step}"
+    for row, label in zip(rows, asked.labels):
+        name = row["number"] if row["number"] == "undone" else f"step {row['number']}"
+        said = ", ".join(filter(None, [name, row["viewer"], f"{label}."]))
+        if row["about"] != said:
+            return f"row {row['number']} is {row['about']}, wanted {said}"
     return ""
 
 
@@ -129,13 +131,13 @@ def words_fault(shown: Shown, asked: Moment, tree: list[Node], last_line: int) -
     line, said = ["0", "before the first line"], f"Before the first line: {asked.live} live steps"
     if asked.line:
         line = [str(asked.line), *filter(None, [asked.viewer]), asked.text, asked.reply]
-        said = f"Line {asked.line}, {asked.begin}: {asked.reply}."
+        said = f"Line {asked.line}, {asked.begin}: {asked.reply}. {asked.told}"
     wanted = {"current": [line], "where": f"line {asked.line} of {last_line}", "slider": str(asked.line)}
     wanted |= dict.fromkeys(("asker", "askerMark", "lineMark"), asked.viewer) | {"valuetext": shown["said"]}
     for part, text in wanted.items():
         if shown[part] != text:
             return f"the {part} is {shown[part]}, wanted {text}"
-    if asked.reply.startswith("refused ") and asked.reply.split(" ")[2] not in shown["why"][0]:
+    if asked.reply.startswith("refused ") and f"{shown['why'][0][:1].upper()}{shown['why'][0][1:]}" != asked.told:
         return f"the line is {asked.reply}, and the page says {shown['why']}"
     if f"| head -n {asked.line} " not in f"| {shown['command']}":
         return f"the command is {shown['command']}"

@@ -14,7 +14,8 @@ from typing import NamedTuple, TypeVar
 
 from lcrq_tools.draw.figure import DARK, GREY, HEAD, MARGIN, PLAIN, SMALL, colour_of, width_of
 from lcrq_tools.draw.viewer_marks import width_of_marks
-from lcrq_tools.records import Cell, Place, Step, Tail
+from lcrq_tools.records import Cell, Place, Tail
+from lcrq_tools.speak.sentences import Seen, of_step
 
 Item = TypeVar("Item")
 Column = tuple[int, int, bool]  # the `id` of a strip, a column of it, and whether its pins are at an end of the queue
@@ -74,32 +75,6 @@ class Chip:
 
 
 @dataclass
-class Last:
-    """The last live step."""
-
-    step: Step
-    point: str
-
-    def actor(self) -> int:
-        """The actor that made it."""
-        return self.step.event.actor
-
-    def places(self) -> list[str]:
-        """The places that it wrote."""
-        return [str(place) for place in self.step.wrote()]
-
-    def sentence(self) -> str:
-        """The step in words."""
-        step = self.step
-        begins = f"step {step.number}: actor {self.actor()}"
-        if not step.place:
-            return f"{begins}, {step.event}"
-        reply = f"; the call replied {step.reply}" if step.reply else ""
-        access = "wrote the index half of" if step.access == "wrote index" else step.access
-        return f"{begins} at {self.point} {access} {step.place}: {step.answer}{reply}"
-
-
-@dataclass
 class Moment:
     """What is to be drawn."""
 
@@ -112,13 +87,17 @@ class Moment:
     array: dict[str, str]  # the replies about its counters and slots, by their places
     chips: list[Chip]
     idle: list[int]  # the actors that are in no call
-    last: Last | None
+    last: Seen | None  # the last live step
     near: set[str] = field(default_factory=set)  # the segments that are never left out
     viewer: int = 0  # who asked the last line, where the run is of viewers
 
     def said(self) -> str:
         """The last step in words."""
-        return self.last.sentence() if self.last else "no step yet"
+        return of_step(self.last) if self.last else "no step yet"
+
+    def written(self) -> list[str]:
+        """The places that the last step wrote."""
+        return [str(place) for place in self.last.step.wrote()] if self.last else []
 
     def headline(self) -> str:
         """The line above the figure."""

@@ -319,7 +319,8 @@ def about(picture: Picture) -> str:
     stands = [f"{lane} at {text}" for lane, text in picture.start.items() if text and actor_of(lane)]
     begin = [f"Before the first row: {'; '.join(stands)}."] if stands and picture.start_name else []
     free = {True: "; it could be undone alone now", False: ""}
-    rows = [f"{row.name()}: {row.sentence()}{free[row.is_free]}." for row in picture.rows]
+    numbers = ("Undone" if row.is_undone else f"Step {row.step.number}" for row in picture.rows)
+    rows = [f"{number}, {row.words()}{free[row.is_free]}." for number, row in zip(numbers, picture.rows)]
     apart = [f"Segment {name} was never linked." for name in sorted(picture.apart)]
     return " ".join([f"The steps{chosen}, from the first down.", *begin, *rows, *apart])
 

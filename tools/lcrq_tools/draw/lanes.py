@@ -12,6 +12,8 @@ from dataclasses import dataclass, field
 from lcrq_tools.draw.figure import HEAD, MARGIN, PLAIN, SMALL, width_of
 from lcrq_tools.draw.viewer_marks import viewer_name, width_of_marks
 from lcrq_tools.records import Actor, Place, Step, content_of
+from lcrq_tools.speak.sentences import Seen, of_actor
+from lcrq_tools.speak.teller import asked_of, seen_of
 
 # Sizes, in pixels.
 ROW, DOT, GAP, BREAK = 22, 4.5, 14, 10
@@ -52,6 +54,7 @@ class Row:
     goes: bool = False  # taken by the rollback that is asked for
     is_free: bool = False  # could be undone alone now
     viewer: int = 0  # who asked it, where the run is of viewers
+    seen: Seen | None = None  # with what is around it
 
     def name(self) -> str:
         """Its number or `undone`."""
@@ -68,24 +71,23 @@ class Row:
         self.dots = [dot_of(self.step, *content) for content in contents]
 
     def questions(self, lanes: Collection[str], before: int) -> list[str]:
-        """What is asked about it from behind step `before` on: its actor, and its lanes before and after it."""
-        shows = [f"show {lane}" for lane in lanes_of(self.step.place, lanes)]
-        return [f"forward {self.step.number - before - 1}", actor_lane(self.actor()), *shows, "forward 1", *shows]
+        """What is asked about it from behind step `before` on: its actor and its lanes before and after it, and
+        its place after it."""
+        around = [actor_lane(self.actor()), *(f"show {lane}" for lane in lanes_of(self.step.place, lanes))]
+        return [f"forward {self.step.number - before - 1}", *around, "forward 1", *around, *asked_of(self.step)]
 
-    def take(self, lanes: Collection[str], replies: Sequence[str]) -> None:
-        """Fills it with the replies to these questions."""
+    def take(self, lanes: Collection[str], replies: Sequence[str], steps: Sequence[Step] = ()) -> None:
+        """Fills it with the replies to these questions, and with the steps of the run, where it may name some."""
         touched = lanes_of(self.step.place, lanes)
-        contents = [content_of(reply) for reply in replies[2:]]
-        self.fill(Actor.read(replies[1]), zip(touched, contents, contents[len(touched) + 1:]))
+        end = 2 + len(touched)
+        before, after = replies[1:end], replies[end + 1: 2 * end]
+        self.fill(Actor.read(before[0]), zip(touched, map(content_of, before[1:]), map(content_of, after[1:])))
+        self.seen = seen_of(self.step, Actor.read(before[0]), Actor.read(after[0]), replies[2 * end:], steps)
 
-    def sentence(self) -> str:
+    def words(self) -> str:
         """The step in words, without its number."""
-        step = self.step
-        begins = f"{viewer_name(self.viewer)}, actor {self.actor()}" if self.viewer else f"actor {self.actor()}"
-        if not step.place:
-            return f"{begins}, {self.point}"
-        reply = f"; the call replies {step.reply}" if step.reply else ""
-        return f"{begins} at {self.point} {step.access} {step.place}: {step.answer}{reply}"
+        asker = f"{viewer_name(self.viewer)}, " if self.viewer else ""
+        return f"{asker}{of_actor(self.seen) if self.seen else self.step.event}"
 
 
 def row_of(step: Step, is_undone: bool = False) -> Row:

@@ -25,13 +25,15 @@ import re
 from collections.abc import Iterable, Iterator, Sequence
 
 from lcrq_tools import model
-from lcrq_tools.draw.boxes import SLOTS, Chip, Last, Moment, Segment
+from lcrq_tools.draw.boxes import SLOTS, Chip, Moment, Segment
 from lcrq_tools.draw.figure import Session, in_order, kind_of, script_name, write_drawn
 from lcrq_tools.draw.queue_drawing import draw
 from lcrq_tools.draw.viewer_marks import viewer_name
 from lcrq_tools.faults import Fault
-from lcrq_tools.options import number_above_0, run_parser
+from lcrq_tools.options import number_above_0, run_parser, settled
 from lcrq_tools.records import WORDS, Actor, Cell, Place, Refusal, Step, Tail, content_of, is_made
+from lcrq_tools.speak.sentences import Seen
+from lcrq_tools.speak.teller import Teller
 
 AT_ONCE = 16  # of how many segments of a maker one run asks
 
@@ -135,12 +137,11 @@ def chips_of(session: Session, actors: dict[int, Actor]) -> list[Chip]:
     return [chip_of(number, actors[number], tried[number], page, rows) for number in busy]
 
 
-def last_of(session: Session) -> Last | None:
+def last_of(session: Session) -> Seen | None:
     """The last live step, if there is one."""
-    if not session.live:
-        return None
-    step = Step.read(session.ask([f"step {session.live}"])[0])
-    return Last(step, Actor.read(session.ask(["back 1", f"actor {step.event.actor}"])[1]).point)
+    with session.driven("the last step") as driven:
+        driven.ask_all(session.lines)
+        return Teller(driven.ask_all).last()
 
 
 # ---- The moment -----------------------------------------------------------------------------------
@@ -172,7 +173,8 @@ def moment_of(arguments: argparse.Namespace) -> tuple[Moment, str]:
     ends = [*contents_of(session, ["qhead", "qtail"]).values()]
     names = names_of(session, actors)
     chips, last = chips_of(session, actors), last_of(session)
-    places = [*(chip.place for chip in chips if chip.place), *(last.places() if last else [])]
+    written = map(str, last.step.wrote()) if last else ()
+    places = [*(chip.place for chip in chips if chip.place), *written]
     near = {*ends, *(Place.read(place).segment for place in places)}
     moment = Moment(
         *titles_of(arguments, session), session.world(), ends[0], ends[1],
@@ -201,4 +203,4 @@ def drawn_of(arguments: argparse.Namespace) -> tuple[str, str]:
 
 def main(words: Sequence[str] | None = None) -> int:
     """Draws the moment that a command line asks for; returns the exit status."""
-    return write_drawn(parser().parse_args(words), drawn_of)
+    return write_drawn(settled(parser(), words), drawn_of)

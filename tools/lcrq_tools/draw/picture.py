@@ -35,7 +35,7 @@ from lcrq_tools.draw.drawing import draw
 from lcrq_tools.draw.figure import Session, in_order, kind_of, script_name, write_drawn
 from lcrq_tools.draw.lanes import Call, Picture, Row, actor_lane, actor_of, lanes_at, lanes_of, order_of, row_of
 from lcrq_tools.faults import Fault
-from lcrq_tools.options import number_above_0, run_parser
+from lcrq_tools.options import number_above_0, run_parser, settled
 from lcrq_tools.records import Actor, Counts, Place, Refusal, Step, content_of, read_reply, stand_of
 
 MOST_ROWS = 200
@@ -181,10 +181,11 @@ def segments_of(rows: list[Row], start: Start) -> list[str]:
 
 
 def ask_along(
-    session: Session, first: int, rows: list[Row], lanes: list[str], names: list[str]
+    session: Session, first: int, rows: list[Row], steps: list[Step], lanes: list[str], names: list[str]
 ) -> tuple[dict[str, str], list[str], list[str]]:
-    """Goes along the run from this step to the end, and asks about its rows and its lanes of memory. Returns
-    what is on each lane before the first step, and where each actor is; the linked segments, and the others."""
+    """Goes along the run of these steps from this one to the end, and asks about its rows and its lanes of
+    memory. Returns what is on each lane before the first step, and where each actor is; the linked segments,
+    and the others."""
     actors = [actor_lane(actor) for actor in range(1, session.actors + 1)]
     before = [first - 1, *(row.step.number for row in rows)]
     _, start, *about, _, end = session.ask_parts([
@@ -195,7 +196,7 @@ def ask_along(
         [f"show {place}" for place in ("qhead", "qtail", *(f"next {name}" for name in names))],
     ])
     for row, replies in zip(rows, about):
-        row.take(lanes, replies)
+        row.take(lanes, replies, () if row.is_undone else steps)
     head, tail, *nexts = map(content_of, end)
     return dict(zip([*actors, *lanes], map(stand_of, start))), *in_order(dict(zip(names, nexts)), [head, tail])
 
@@ -286,7 +287,8 @@ def drawn_rows(session: Session, choice: Choice, all_rows: list[Row], rows: list
     """The picture of these rows out of all, with nothing asked of it."""
     name = f"after {choice.first - 1}" if choice.first > 1 else "start" if "actors" in start else ""
     memory = places_drawn(rows, choice)
-    stands, linked, apart = ask_along(session, choice.first, rows, memory, segments_of(all_rows, start))
+    steps, names = [row.step for row in all_rows], segments_of(all_rows, start)
+    stands, linked, apart = ask_along(session, choice.first, rows, steps, memory, names)
     actors = {lane: stand for lane, stand in stands.items() if actor_of(lane)}
     lanes = [*actors_drawn(rows, choice, actors if name else {}), *memory]
     chain = [*linked, *apart]
@@ -360,4 +362,4 @@ def drawn_of(arguments: argparse.Namespace) -> tuple[str, str]:
 
 def main(words: Sequence[str] | None = None) -> int:
     """Writes the picture that the command line asks for; returns the exit status."""
-    return write_drawn(parser().parse_args(words), drawn_of)
+    return write_drawn(settled(parser(), words), drawn_of)

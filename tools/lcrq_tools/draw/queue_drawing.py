@@ -24,8 +24,8 @@ class Written:
     """What the last step wrote, and its colours."""
 
     def __init__(self, moment: Moment) -> None:
-        self.places = moment.last.places() if moment.last else []
-        self.colour, self.dark = colour_of(moment.last.actor()) if moment.last else (LANE, DARK)
+        self.places = moment.written()
+        self.colour, self.dark = colour_of(moment.last.step.event.actor) if moment.last else (LANE, DARK)
 
     def group(self, place: str, inside: Iterable[Element]) -> Element:
         """What is drawn of a place, which the group names."""

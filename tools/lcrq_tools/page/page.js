@@ -171,7 +171,7 @@ function drawLanes(state, before) {
     if (kinds.away) continue;
     row.setAttribute("transform", `translate(0 ${run.height * (at - run.above) + (live ? 0 : run.border)})`);
     put(part(row, ".number"), live ? String(at + 1) : "undone");
-    row.setAttribute("aria-label", `${live ? `step ${at + 1}` : "undone"}: ${row.dataset.about}`);
+    row.setAttribute("aria-label", `${live ? `step ${at + 1}` : "undone"}, ${row.dataset.about}`);
   }
   byId("border").setAttribute("transform", `translate(0 ${run.height * (state.live - run.above)})`);
   reveal(lanes, rows.get(state.rows.find((row) => moved.has(row))) || rows.get(state.last));
@@ -272,13 +272,13 @@ async function copy() {
   }
 }
 
-// A handout has the queue at each bookmark, or at the end: it is drawn there once, and copied.
+// A handout has the queue at the line that is shown, and at each bookmark: it is drawn there once, and copied.
 function handOut() {
-  const at = now;
-  byId("handout").replaceChildren(...run.handout.map(([moment, caption]) => {
+  const at = now, moments = [...new Set([...run.handout, at])].sort((one, other) => one - other);
+  byId("handout").replaceChildren(...moments.map((moment) => {
     show(moment);
     const figure = document.createElement("figure"), words = document.createElement("figcaption");
-    words.textContent = caption;
+    words.textContent = states[moment].said;
     figure.append(words, byId("queue").cloneNode(true), byId("chips").cloneNode(true));
     for (const element of all("[id]", figure)) element.removeAttribute("id");
     return figure;
@@ -288,7 +288,10 @@ function handOut() {
 
 document.addEventListener("keydown", pressed);
 slider.addEventListener("input", () => go(Number(slider.value) - run.first));
-items.forEach((item, at) => part(item, "button").addEventListener("click", () => go(at)));
+items.forEach((item, at) => {
+  part(item, "button").addEventListener("click", () => go(at));
+  part(item, "button").title = states[at].said;
+});
 for (const [number, row] of rows) {
   for (const name of ["mouseenter", "focus"]) row.addEventListener(name, () => markDependants(number));
   for (const name of ["mouseleave", "blur"]) row.addEventListener(name, () => markDependants());

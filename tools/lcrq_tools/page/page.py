@@ -8,10 +8,11 @@ Of each line the page shows the reply, why it is refused if it is, the queue wit
 actor's next step would touch, the steps as lanes with a border between live and undone ones, and
 the pseudo-code of docs/MODEL.md with the actors at their lines. The right and the left arrow go a
 line on and back, Home and End to the ends; a slider and a click on a line do too. `#line=14` in the
-address leads to a moment. `copy` gives the command that shows the same by the program. Printed it
-is a handout: lines with replies, and the queue at each bookmark, or at the end. On the page of a history
-each line and each step has the mark of the viewer who asked it. `--slides 12,14,20` makes slides of
-these lines, for a class (`slides.py`).
+address leads to a moment. What each line did is said in a sentence (`teller.py`). `copy` gives the
+command that shows the same by the program. Printed it is a handout: lines with replies, and the queue
+at the line that is shown and at each bookmark. On the page of a history each line and each step has
+the mark of the viewer who asked it. `--slides 12,14,20` makes slides of these lines, for a class
+(`slides.py`).
 
 Each fact is a reply of the program to a line of a script: this is a client of its text interface.
 The same input gives the same bytes.
@@ -28,7 +29,7 @@ from lcrq_tools import model
 from lcrq_tools.draw.figure import ACTORS, kind_of, script_name, write_drawn
 from lcrq_tools.draw.lanes import actor_of
 from lcrq_tools.faults import Fault
-from lcrq_tools.options import run_parser
+from lcrq_tools.options import run_parser, settled
 from lcrq_tools.page import page_lanes, page_moments, page_parts, slides
 from lcrq_tools.page.page_lanes import Lanes
 from lcrq_tools.page.page_viewers import Marks
@@ -86,16 +87,9 @@ def command_of(arguments: argparse.Namespace) -> list[str]:
     return [f"grep '^[0-9]' {name} | head -n ", f" | cut -d ' ' -f 2- | {shlex.join(words)}"]
 
 
-def heading_of(state: State) -> str:
-    """What stands above a moment of a handout."""
-    return f"After line {state.line}, {state.asked()}: {state.reply}" if state.line else "Before the first line"
-
-
-def handout_of(states: list[State]) -> list[tuple[int, str]]:
-    """The moments that a handout shows: those of bookmarks, or the last one."""
-    headings = [*enumerate(map(heading_of, states))]
-    marked = [heading for heading, state in zip(headings, states) if state.reply.startswith("marked ")]
-    return marked or headings[-1:]
+def handout_of(states: list[State]) -> list[int]:
+    """The moments that a handout shows beside that of the line on the screen: those of bookmarks."""
+    return [index for index, state in enumerate(states) if state.reply.startswith("marked ")]
 
 
 def data_of(fields: dict[str, object], moments: list[dict[str, object]]) -> str:
@@ -149,13 +143,15 @@ def made_of(arguments: argparse.Namespace, asked: Asked, states: list[State]) ->
     """The page of these moments."""
     text, rows = model.PAGE.read_text(encoding="utf-8"), Rows(states)
     code, (steps, _) = model.lines_of(text), model.read(text)
-    whys, chips = page_moments.whys_of(states), [page_moments.chips_of(state, code, steps) for state in states]
-    sentences = page_moments.sentences_of(states, whys)
+    chips = [page_moments.chips_of(state, code, steps) for state in states]
+    sentences = page_moments.sentences_of(states)
     above = above_of(states, rows)
     figure = drawing_of(arguments, asked, states, rows, above)
     marks = figure.marks
     moments = page_moments.differences_of(page_moments.whole_states(states, chips, sentences))
-    lines = (page_parts.line_item(state, why, marks.in_line(state.viewer)) for state, why in zip(states, whys))
+    lines = (
+        page_parts.line_item(state, page_moments.reason_of(state), marks.in_line(state.viewer)) for state in states
+    )
     return Template(text_in("page.html")).substitute(
         title=escape(f"{script_name(arguments)}, {asked.session.world()}"),
         style="\n".join([page_parts.colours(), page_parts.room(states, chips), text_in("page.css"), *marks.style()]),
@@ -202,4 +198,4 @@ def parser() -> argparse.ArgumentParser:
 
 def main(words: list[str] | None = None) -> int:
     """Writes the page that a command line asks for; returns the exit status."""
-    return write_drawn(parser().parse_args(words), page_of)
+    return write_drawn(settled(parser(), words), page_of)

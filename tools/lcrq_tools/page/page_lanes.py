@@ -91,7 +91,7 @@ class Lanes(Across):
             line_to_dots(self.lanes, row, 0),
             *step_lines(self.lanes, row, 0),
         ]
-        names = {"data_row": index, "tabindex": -1, "role": "listitem", "data_about": f"{row.sentence()}."}
+        names = {"data_row": index, "tabindex": -1, "role": "listitem", "data_about": f"{row.words()}."}
         return group(f"row {actor_class(row.actor())} away", lines, **names)
 
     def border(self) -> Element:

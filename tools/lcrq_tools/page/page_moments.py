@@ -6,13 +6,14 @@
 import re
 from collections.abc import Mapping
 
-from lcrq_tools import manual, model
+from lcrq_tools import model
 from lcrq_tools.draw import moment
-from lcrq_tools.draw.boxes import Chip, Last
+from lcrq_tools.draw.boxes import Chip
 from lcrq_tools.page.run_states import State, common_of
-from lcrq_tools.records import Refusal, is_made, read_reply
+from lcrq_tools.records import Refusal, read_reply
+from lcrq_tools.speak.sentences import of_step
 
-MOST_NAMED = 4  # steps or places in one sentence
+REFUSED = "refused: "  # with which the sentence of a refused line begins
 
 Whole = dict[str, object]  # a moment as a page has it, or what differs from the one before
 
@@ -38,61 +39,24 @@ def named_rows(state: State) -> list[int]:
     return [state.rows[int(number) - 1] for number in (asked[1], refused.data[0])]
 
 
-def listed(parts: list[str]) -> str:
-    """Parts as one text, not more than a few."""
-    more = [f"and {len(parts) - MOST_NAMED} more"] if len(parts) > MOST_NAMED else []
-    return "; ".join([*parts[:MOST_NAMED], *more])
+def reason_of(state: State) -> str:
+    """Why a line is refused; nothing where it isn't."""
+    return state.spoken.sentence.removeprefix(REFUSED) if state.reply.startswith("refused ") else ""
 
 
-def moves_of(before: State, after: State) -> str:
-    """Which steps a line undid and which it made again, in words."""
-    was, now = before.rows[: before.live], after.rows[: after.live]
-    events = dict(zip([*before.rows, *after.rows], (step.event for step in (*before.steps, *after.steps))))
-    undone = [f"step {number}, {events[row]}" for number, row in enumerate(was, 1) if row not in now]
-    made = [f"{events[row]}, step {number} now" for number, row in enumerate(now, 1) if row not in was]
-    parts = [("Undone: ", undone), ("Made again: ", made)]
-    return " ".join(f"{head}{listed(steps)}." for head, steps in parts if steps)
+def told_of(state: State) -> str:
+    """What a line did, as a sentence on its own."""
+    seen = state.spoken.seen
+    told = of_step(seen) if seen else state.spoken.sentence.removeprefix(REFUSED)
+    return f"{told[:1].upper()}{told[1:]}{'' if told.endswith('?') else '.'}"
 
 
-def contents_of(before: State, after: State) -> str:
-    """Which places have another content than before, in words."""
-    names = [*dict.fromkeys([*before.places, *after.places])]
-    changed = [name for name in names if before.places.get(name) != after.places.get(name)]
-    parts = [f"{name} is {after.places[name]}" if name in after.places else f"{name} is gone" for name in changed]
-    return f"Now {listed(parts)}." if parts else ""
-
-
-def what_changed(before: State, after: State, why: str) -> str:
-    """What a line changed, in words."""
-    if why:
-        return f"Nothing changes. {why}"
-    if is_made(after.reply):
-        step = after.steps[after.live - 1]
-        said = Last(step, before.actors[step.event.actor].point).sentence()
-        return f"{said[0].upper()}{said[1:]}."
-    moved = moves_of(before, after)
-    return f"{moved} {contents_of(before, after)}".strip() if moved else "Nothing changes."
-
-
-def sentences_of(states: list[State], whys: list[str]) -> list[str]:
-    """Each moment in words: its line, the reply, and what changed."""
+def sentences_of(states: list[State]) -> list[str]:
+    """Each moment in words: its line, the reply, and what the line did."""
     first = states[0]
     begins = f"After line {first.line}" if first.line else "Before the first line"
-    pairs = zip(states, states[1:], whys[1:])
-    return [
-        f"{begins}: {first.live} live steps, {first.undone} undone.",
-        *(
-            f"Line {state.line}, {state.asked()}: {state.reply}. {what_changed(before, state, why)}"
-            for before, state, why in pairs
-        ),
-    ]
-
-
-def whys_of(states: list[State]) -> list[str]:
-    """Why each line is refused, by the manual; nothing where it isn't."""
-    refusals = manual.refusals()
-    replies = [read_reply(state.reply) for state in states]
-    return [refusals[str(reply.number)] if isinstance(reply, Refusal) else "" for reply in replies]
+    lines = (f"Line {state.line}, {state.asked()}: {state.reply}. {told_of(state)}" for state in states[1:])
+    return [f"{begins}: {first.live} live steps, {first.undone} undone.", *lines]
 
 
 def whole_states(

@@ -6,11 +6,13 @@ dots of a row are the contents before and after its step, as the program replies
 """
 
 from collections.abc import Iterable
+from dataclasses import replace
 
 from lcrq_tools.draw.askers import viewers_after
 from lcrq_tools.draw.lanes import Row, actor_lane, lanes_at, lanes_of, order_of, row_of
 from lcrq_tools.page.run_states import Asked, State, common_of
 from lcrq_tools.records import is_made
+from lcrq_tools.speak.sentences import Seen
 
 
 class Rows:
@@ -78,6 +80,7 @@ def filled_rows(
             touched = lanes_of(row.step.place, lanes)
             contents = [(lane, before.content(lane), after.content(lane)) for lane in touched]
             row.fill(before.actors[row.actor()], contents)
+            row.seen = unnumbered(after.spoken.seen)
         else:
             along.setdefault(moment, []).append(row)
     for moment, unfilled in along.items():
@@ -85,6 +88,11 @@ def filled_rows(
     if asked.session.viewers:
         put_viewers(asked, states, rows, drawn)
     return drawn, lanes
+
+
+def unnumbered(seen: Seen | None) -> Seen | None:
+    """A step without the numbers of other ones, which change along a page."""
+    return seen and replace(seen, read=0, writer=0)
 
 
 def put_viewers(asked: Asked, states: list[State], rows: Rows, drawn: dict[int, Row]) -> None:

@@ -1,9 +1,9 @@
 """Asks the program for the moments of a run, which `page.py` puts into its page.
 
 A moment is what a line of the script leaves. Asked are the live and the undone steps, the words of
-each actor, the content of each place, and what each actor's next step would touch. Each of these
-is one run with questions after each line. A trial of a next step loses the undone steps, so trials
-have a run of their own, which makes the live steps of each moment and no others.
+each actor, the content of each place, what each actor's next step would touch, and what each line did
+in words. Each of these is one run with questions after each line. A trial of a next step loses the
+undone steps, so trials have a run of their own, which makes the live steps of each moment and no others.
 """
 
 import argparse
@@ -17,6 +17,7 @@ from lcrq_tools.draw.figure import Session, in_order
 from lcrq_tools.draw.moment import names_of, trials_of, tried_by
 from lcrq_tools.draw.viewer_marks import viewer_name
 from lcrq_tools.records import Actor, Cell, Counts, Place, Refusal, Step, content_of
+from lcrq_tools.speak.teller import Spoken, Teller
 
 
 @dataclass
@@ -37,6 +38,7 @@ class State:
     apart: list[str] = field(default_factory=list)
     rows: list[int] = field(default_factory=list)  # of the steps
     viewer: int = 0  # who asked the line, where the run is of viewers
+    spoken: Spoken = Spoken("", "", "")  # the line with what it did, in words
 
     def asked(self) -> str:
         """The line, behind its viewer if it has one."""
@@ -121,6 +123,15 @@ def ask_actors(asked: Asked, states: list[State], names: list[str]) -> None:
         state.chain, state.apart = in_order({name: end for name, end in zip(names, nexts) if end}, [head, tail])
 
 
+def ask_words(asked: Asked, states: list[State]) -> None:
+    """Asks what each line did, which a run says line by line."""
+    with asked.session.driven("what the lines did") as driven:
+        driven.ask_all(asked.lines[: asked.first])
+        teller = Teller(driven.ask_all)
+        for state in states[1:]:
+            state.spoken = teller.tell(asked.lines[state.line - 1])
+
+
 def common_of(before: Iterable[object], after: Iterable[object]) -> int:
     """With how many equal parts two lists begin."""
     return len([*itertools.takewhile(lambda pair: pair[0] == pair[1], zip(before, after))])
@@ -189,6 +200,7 @@ def states_of(asked: Asked) -> list[State]:
     """The moments of a run."""
     states = lengths_of(asked)
     ask_steps(asked, states)
+    ask_words(asked, states)
     made = {step.place.segment for state in states for step in state.steps}
     makers = range(1, asked.session.actors + 1)
     names = sorted({*names_of(asked.at(asked.first), makers), *made} - {""}, key=number_of)

@@ -4,7 +4,7 @@ A slide begins with the queue and the steps before its line. The first press of 
 question, the second the reply, the sentence of the line, and the queue and the steps after it. Right arrow, space
 and PageDown go to the next slide, left arrow, Shift and space, and PageUp to the one before.
 
-The sentence is the page's own, `said` of its moments, which `page_moments.sentences_of` makes.
+The sentence is the page's own, `said` of its moments, which `page_moments.sentences_of` makes by `teller.py`.
 """
 
 import argparse

@@ -7,9 +7,13 @@ from lcrq_tools.draw.lanes import Dot, Row
 from lcrq_tools.page.page_lanes import Lanes
 from lcrq_tools.page.page_viewers import Marks
 from lcrq_tools.records import Step
+from lcrq_tools.speak.sentences import Seen
+from lcrq_tools.tests.replay_stub import actor
 
 LANES = ["actor 1", "actor 2", "qtail", "tail 0.0"]
-READ = Row(Step.read("step 1; go 1; qtail; read; 0.0; -"), "E1", [Dot("qtail", "read", "0.0")])
+FIRST = Step.read("step 1; go 1; qtail; read; 0.0; -")
+SEEN = Seen(FIRST, actor("E1"), actor("E2"), "0.0")
+READ = Row(FIRST, "E1", [Dot("qtail", "read", "0.0")], seen=SEEN)
 WROTE = Step.read("step 2; go 2; tail 0.0; wrote; open 0; -")
 DREW = Row(WROTE, "", [Dot("tail 0.0", "wrote", "open 0 → open 1")], viewer=3)
 
@@ -29,7 +33,7 @@ class Rows(unittest.TestCase):
         self.assertEqual([(text.tag, text.text, text.get("text-anchor")) for text in numbers], [("text", "", "end")])
         self.assertEqual(float(numbers[0].get("x", "0")), round(figure.numbers, 1))
         self.assertEqual((row.get("data-row"), row.get("class")), ("0", "row a1 away"))
-        self.assertEqual(row.get("data-about"), "actor 1 at E1 read qtail: 0.0.")
+        self.assertEqual(row.get("data-about"), "actor 1, E1: reads the queue's tail: 0.0.")
 
     def test_a_row_shows_who_asked_it(self) -> None:
         made = drawn(READ, DREW)

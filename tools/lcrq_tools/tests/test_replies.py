@@ -8,7 +8,6 @@ from lcrq_tools.checks import random_scripts, replies
 from lcrq_tools.checks.replies import Call, Replies
 from lcrq_tools.draw import figure
 from lcrq_tools.faults import Fault
-from lcrq_tools.records import Step
 
 STEPS = ["step 1; enq 1 7; -; none; -; -", "step 2; go 1; tail 0.0; wrote; open 0; -"]
 SAID = dict(zip(("step 1", "step 2"), STEPS)) | {
@@ -60,13 +59,6 @@ class Moments(unittest.TestCase):
         self.assertNotEqual(asked().segments_fault([], ["0.0"], ["0.0"]), "")
         self.assertEqual(replies.chain_of({"1.0": "2.0", "0.0": "1.0", "2.0": "none"}), ["0.0", "1.0", "2.0"])
         self.assertEqual(replies.segments_of({"start": {"segments": [[{}], [], [{}, {}]]}}), {"0.0", "2.0", "2.1"})
-
-    def test_a_row_names_all_of_its_step(self) -> None:
-        step = Step.read("step 2; go 1; tail 0.0; wrote; open 0; 7")
-        label = "actor 1, E4 wrote tail 0.0: open 0; the call replies 7"
-        self.assertFalse(replies.lacks(label, step))
-        for word in ("actor 1", "wrote", "open 0", "the call replies 7"):
-            self.assertTrue(replies.lacks(label.replace(word, ""), step), word)
 
 
 class Scripts(unittest.TestCase):

@@ -74,7 +74,7 @@ class Pictures(unittest.TestCase):
         self.assertEqual(names, ["viewer 1", "viewer 2", "viewer 12"])
 
     def test_its_words_name_the_viewers(self) -> None:
-        self.assertIn("1: viewer 2, actor 1 at E1 read qtail: 0.0. 2: actor 1 at E1", drawing.about(picture(2, 0)))
+        self.assertIn("Step 1, viewer 2, go 1. Step 2, go 1.", drawing.about(picture(2, 0)))
 
     def test_without_viewers_nothing_moves(self) -> None:
         plain, marked = (Layout(picture(viewer), 0.0, ["write"]) for viewer in (0, 1))
