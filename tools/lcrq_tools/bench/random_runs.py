@@ -13,7 +13,8 @@ SEED = 20130223
 
 def fresh_world(actors: int, ring: int) -> World:
     """The fresh world of actors, numbered from 1, over rings of this many cells."""
-    return World(model.read(model.PAGE.read_text(encoding="utf-8")), Start(actors, ring, "fresh"), collections.Counter())
+    pseudo_code = model.read(model.PAGE.read_text(encoding="utf-8"))
+    return World(pseudo_code, Start(actors, ring, "fresh"), collections.Counter())
 
 
 def make(world: World, line: str) -> None:

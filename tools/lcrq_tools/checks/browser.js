@@ -40,8 +40,8 @@ function viewerOf(element) {
 function rowsShown() {
   const rows = seenIn("#lanes .row").map((row) => [row.getBoundingClientRect().top, row]);
   rows.sort((one, other) => one[0] - other[0]);
-  const border = document.querySelector("#border line").getBoundingClientRect();
-  const side = (box) => (box.bottom <= border.bottom + 1 ? "above" : box.top >= border.top - 1 ? "below" : "on");
+  const line = seenIn("#border line")[0], border = line && line.getBoundingClientRect();
+  const side = (box) => (!border ? "above" : box.bottom <= border.bottom + 1 ? "above" : box.top >= border.top - 1 ? "below" : "on");
   return rows.map(([top, row]) => ({
     number: textOf(row.querySelector(".number")), about: row.getAttribute("aria-label"), side: side(row.querySelector(".ground").getBoundingClientRect()),
     last: row.classList.contains("last"), named: row.classList.contains("named"), viewer: viewerOf(row),
@@ -115,8 +115,10 @@ function cutOff({ parent, box }) {
   return !scrolls && (box.left < -1 || box.right > document.documentElement.clientWidth + 1);
 }
 
+const SCROLLERS = ".scroll, .lines, .look > section:first-child";
+
 function layoutFaults() {
-  for (const scroller of document.querySelectorAll(".scroll, .lines")) scroller.scrollTo(0, 0);
+  for (const scroller of document.querySelectorAll(SCROLLERS)) scroller.scrollTo(0, 0);
   scrollTo(0, 0);
   const root = document.documentElement, faults = [], boxes = textBoxes();
   if (root.scrollWidth > root.clientWidth) faults.push(`the page scrolls sideways: ${root.scrollWidth} of ${root.clientWidth}`);
@@ -134,16 +136,22 @@ function layoutFaults() {
 
 // The bar and the heads of the lanes stay in place, and what is scrolled goes below them; a list that scrolls hides what is beyond its frame.
 function isUnder(one, other) {
-  const scroller = (it) => it.parent.closest(".scroll, .lines");
-  if (scroller(one) === scroller(other)) return false;
-  return [one, other].some((it) => {
-    const frame = scroller(it) && scroller(it).getBoundingClientRect();
-    return frame && (it.box.top >= frame.bottom - 1 || it.box.left >= frame.right - 1 || it.box.bottom > frame.bottom || it.box.right > frame.right);
-  });
+  if (scrollersOf(one)[0] === scrollersOf(other)[0]) return false;
+  return [one, other].some((it) => scrollersOf(it).some((scroller) => {
+    const frame = scroller.getBoundingClientRect();
+    return it.box.top >= frame.bottom - 1 || it.box.left >= frame.right - 1 || it.box.bottom > frame.bottom || it.box.right > frame.right;
+  }));
+}
+
+// What scrolls around a text, from the inside.
+function scrollersOf({ parent }) {
+  const found = [];
+  for (let it = parent.closest(SCROLLERS); it; it = it.parentElement.closest(SCROLLERS)) found.push(it);
+  return found;
 }
 
 function frames() {
-  const sizes = ["queue", "chips", "lanes", "lines"].map((name) => document.getElementById(name).getBoundingClientRect());
+  const sizes = ["queue", "lanes", "lines"].map((name) => document.getElementById(name).getBoundingClientRect());
   return [...sizes.map((it) => `${Math.round(it.width)}x${Math.round(it.height)}`), document.documentElement.scrollHeight].join(" ");
 }
 

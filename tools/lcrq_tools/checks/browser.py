@@ -194,7 +194,7 @@ class Walk:
         for moment in [*(moment for moment in moments[:-1] if moment.reply.startswith("marked ")), moments[-1]]:
             values = {place: content for place, content in moment.contents.items() if place.startswith("value ")}
             texts = {place: "" if content == "none" else content for place, content in values.items()}
-            wanted.append([f"Line {moment.line}, {moment.begin}: {moment.reply}. {moment.told}.", texts])
+            wanted.append([f"Line {moment.line}, {moment.begin}: {moment.reply}. {moment.told}", texts])
         figures = self.browser.ask("handout()")
         if figures != wanted:
             return f"the handout has {figures}, wanted {wanted}"

@@ -126,8 +126,8 @@ def lacks(shown: str, *wanted: str) -> str:
 
 def sentences(path: str) -> str:
     """Each reply comes with its sentence, behind a prompt that counts."""
-    with at_prompt(path) as at:
-        shown = at.enter("enq 1 7") + at.enter("go 1") + at.enter("undo")
+    with at_prompt(path) as terminal:
+        shown = terminal.enter("enq 1 7") + terminal.enter("go 1") + terminal.enter("undo")
     return lacks(shown, "ok 1  begins to enqueue 7", "1 live> ", "ok 2  E1: reads the queue's tail: 0.0", "2 live> ",
                  "at 1 1  takes back step 2", "1 live, 1 undone> ")
 
@@ -136,117 +136,121 @@ def slips(path: str) -> str:
     """A slip isn't sent, and the prompt says what was meant."""
     said = {"go1": "did you mean `go 1`?", "Go 1": "did you mean `go 1`?", "enq 1": "expected `enq A X`, as `enq 1 7`",
             "undoo 3": "did you mean `undo 3`?", "cell 0.0 0": "did you mean `show cell 0.0 0`?", "foo": "`help` lists"}
-    with at_prompt(path) as at:
-        wrong = [lacks(at.enter(line), f"not sent: {'' if text[0] in 'de' else 'no command'}", text, "0 live> ")
+    with at_prompt(path) as terminal:
+        wrong = [lacks(terminal.enter(line), f"not sent: {'' if text[0] in 'de' else 'no command'}", text, "0 live> ")
                  for line, text in said.items()]
-        return next(filter(None, wrong), "") or lacks(at.enter("len"), "at 0 0")
+        return next(filter(None, wrong), "") or lacks(terminal.enter("len"), "at 0 0")
 
 
 def editing(path: str) -> str:
     """Arrows move in a line and recall the one before, and a letter is taken back."""
-    with at_prompt(path) as at:
-        at.enter("enq 1 7")
-        shown = at.enter(f"gx{DELETE} 1{LEFT}{LEFT}o", "ok 2") + at.enter(UP, "ok 3")
+    with at_prompt(path) as terminal:
+        terminal.enter("enq 1 7")
+        shown = terminal.enter(f"gx{DELETE} 1{LEFT}{LEFT}o", "ok 2") + terminal.enter(UP, "ok 3")
     return lacks(shown, "ok 2", "ok 3")
 
 
 def completion(path: str) -> str:
     """Tab completes words, actors, places that are there and bookmarks."""
-    with at_prompt(path) as at:
-        shown = at.enter(f"or{TAB}1", "refused 12") + at.enter("enq 4 1") + at.enter("go 4")
-        shown += at.enter("mark here") + at.enter(f"goto h{TAB}", "goes to bookmark here")
-        shown += at.enter(f"show ta{TAB}0{TAB}", "the tail of ring 0.0 is open, at 0")
-        both = at.type(f"deq {TAB}{TAB}", "4")
+    with at_prompt(path) as terminal:
+        shown = terminal.enter(f"or{TAB}1", "refused 12") + terminal.enter("enq 4 1") + terminal.enter("go 4")
+        shown += terminal.enter("mark here") + terminal.enter(f"goto h{TAB}", "goes to bookmark here")
+        shown += terminal.enter(f"show ta{TAB}0{TAB}", "the tail of ring 0.0 is open, at 0")
+        both = terminal.type(f"deq {TAB}{TAB}", "4")
     return lacks(shown, "goes to bookmark here", "the tail of ring 0.0") or lacks(both, "1", "2", "3", "4")
 
 
 def leaving(path: str) -> str:
     """Control-C leaves the line and never the session; Control-D and `quit` end the prompt."""
-    with at_prompt(path) as at:
-        at.enter("enq 1 7")
-        at.type(f"go 1{STOP}", "1 live> ")
-        shown, status = at.enter("len"), at.end(END)
-    with at_prompt(path) as at:
-        both = (status, at.end(f"quit{ENTER}"))
+    with at_prompt(path) as terminal:
+        terminal.enter("enq 1 7")
+        terminal.type(f"go 1{STOP}", "1 live> ")
+        shown, status = terminal.enter("len"), terminal.end(END)
+    with at_prompt(path) as terminal:
+        both = (status, terminal.end(f"quit{ENTER}"))
     return lacks(shown, "at 1 0") or ("" if both == (0, 0) else f"statuses {both}")
 
 
 def helping(path: str) -> str:
     """`help` and `?` list the commands, and `help WORD` says more."""
-    with at_prompt(path) as at:
-        shown = at.enter("help", "queue") + at.enter("?", "queue")
-        one = at.enter("help go", "next atomic step")
+    with at_prompt(path) as terminal:
+        shown = terminal.enter("help", "queue") + terminal.enter("?", "queue")
+        one = terminal.enter("help go", "next atomic step")
     return lacks(shown, "enq A X", "markat I", "until", "save") or lacks(one, "go A")
 
 
 def looking(path: str) -> str:
     """`where` shows the actors, and `queue` the queue, also with undone steps, which stay."""
-    with at_prompt(path) as at:
+    with at_prompt(path) as terminal:
         for line in (*CALL, "undo"):
-            at.enter(line)
-        where, queue, counts = at.enter("where", "actor 4"), at.enter("queue", "no value"), at.enter("len", "at 3 1")
+            terminal.enter(line)
+        where, queue = terminal.enter("where", "actor 4"), terminal.enter("queue", "no value")
+        counts = terminal.enter("len", "at 3 1")
     return (lacks(where, "actor 1 is at E4 of `enq 7`, would write the tail of ring 0.0", "which grows by 1")
             or lacks(queue, "0.0  head 0  tail 0  QHead  QTail", "index  0  1  2  3") or lacks(counts, "at 3 1"))
 
 
 def going_on(path: str) -> str:
     """A count repeats a line, and `until` goes on to the end of a call."""
-    with at_prompt(path) as at:
-        shown = at.enter(CALL[0]) + at.enter(CALL[1], "ok 4") + at.enter("until 1", "ok 7 enqueued")
-        none = at.enter("until 1", "refused 3 Idle") + at.enter("until", "expected `until A`")
+    with at_prompt(path) as terminal:
+        shown = terminal.enter(CALL[0]) + terminal.enter(CALL[1], "ok 4") + terminal.enter("until 1", "ok 7 enqueued")
+        none = terminal.enter("until 1", "refused 3 Idle") + terminal.enter("until", "expected `until A`")
     return lacks(shown, "ok 4", "ok 7 enqueued") or lacks(none, "actor 1 is in no call")
 
 
 def saving(path: str) -> str:
     """`save` writes a script, a trace, a page and a picture, and `open` begins anew with a file."""
     begins = {"script": "enq 1 7\n", "trace": '{"events"', "html": "<!DOCTYPE html>", "svg": "<svg "}
-    with tempfile.TemporaryDirectory() as folder, opened(path, folder) as at:
+    with tempfile.TemporaryDirectory() as folder, opened(path, folder) as terminal:
         for line in CALL:
-            at.enter(line)
+            terminal.enter(line)
         for ending in begins:
-            at.enter(f"save r.{ending}", f"saved r.{ending}")
-        wrong = [name for name, begin in begins.items() if not (Path(folder) / f"r.{name}").read_text().startswith(begin)]
-        shown = at.enter("open r.script", "4 live> ") + at.enter("open r.trace", "4 live> ") + at.enter("save r", "expected")
-        lost = at.enter("open none.script", "no such file")
+            terminal.enter(f"save r.{ending}", f"saved r.{ending}")
+        texts = {name: (Path(folder) / f"r.{name}").read_text() for name in begins}
+        wrong = [name for name, begin in begins.items() if not texts[name].startswith(begin)]
+        shown = terminal.enter("open r.script", "4 live> ") + terminal.enter("open r.trace", "4 live> ")
+        shown += terminal.enter("save r", "expected")
+        lost = terminal.enter("open none.script", "no such file")
     return f"no {wrong}" if wrong else lacks(shown + lost, "expected `save FILE`", "none.script: no such file")
 
 
 def narrow(path: str) -> str:
     """In a narrow window no line is wider than it."""
-    with at_prompt(path, columns=40) as at:
-        shown = "".join(at.enter(line) for line in ("enq 1 7", "go 1", "go 1", "go 1"))
+    with at_prompt(path, columns=40) as terminal:
+        shown = "".join(terminal.enter(line) for line in ("enq 1 7", "go 1", "go 1", "go 1"))
     wide = [line for line in shown.splitlines() if len(line) > 40]
     return f"too wide: {wide}" if wide else lacks(" ".join(shown.split()), "E4: adds 1 to the tail of ring 0.0")
 
 
 def plain(path: str) -> str:
     """A terminal without colours gets none, and another one gets sentences that are dim."""
-    with at_prompt(path, kind="dumb") as at:
-        at.enter("enq 1 7")
-        dumb = at.raw
-    with at_prompt(path) as at:
-        at.enter("enq 1 7", "enqueue 7")
-        dim = at.raw
+    with at_prompt(path, kind="dumb") as terminal:
+        terminal.enter("enq 1 7")
+        dumb = terminal.raw
+    with at_prompt(path) as terminal:
+        terminal.enter("enq 1 7", "enqueue 7")
+        dim = terminal.raw
     return "colours" if "\033[2m" in dumb else lacks(dim, "\033[2mbegins to enqueue 7\033[0m")
 
 
 def remembering(path: str) -> str:
     """The lines of a session are there in the next one."""
     with tempfile.TemporaryDirectory() as folder:
-        with opened(path, folder) as at:
-            at.enter("deq 3")
-            at.end(END)
-        with opened(path, folder) as at:
-            return lacks(at.enter(UP, "ok 1"), "begins to dequeue")
+        with opened(path, folder) as terminal:
+            terminal.enter("deq 3")
+            terminal.end(END)
+        with opened(path, folder) as terminal:
+            return lacks(terminal.enter(UP, "ok 1"), "begins to dequeue")
 
 
 def beginning(path: str) -> str:
     """A script, a trace and the options of a world are what the session begins with."""
-    with at_prompt(path, str(EXAMPLES / "session.script")) as at:
-        first = at.text()
-    with at_prompt(path, "--ring", "2", "--actors", "2") as at:
-        second = at.enter("show cell 0.0 2") + at.enter("deq 3")
-    return lacks(first, "19 lines are run, 1 refused", "14 live> ") or lacks(second, "NoSuchPlace", "there is no actor 3")
+    with at_prompt(path, str(EXAMPLES / "session.script")) as terminal:
+        first = terminal.text()
+    with at_prompt(path, "--ring", "2", "--actors", "2") as terminal:
+        second = terminal.enter("show cell 0.0 2") + terminal.enter("deq 3")
+    wanted = lacks(first, "19 lines are run, 1 refused", "14 live> ")
+    return wanted or lacks(second, "NoSuchPlace", "there is no actor 3")
 
 
 def piped(path: str) -> str:

@@ -218,4 +218,4 @@ def told_by(words: list[str], lines: Sequence[str]) -> list[str]:
         teller = Teller(driven.ask_all)
         spoken = [teller.tell(line) for line in lines]
     texts = [of_step(each.seen) if each.seen else each.sentence.removeprefix("refused: ") for each in spoken]
-    return [f"{text[:1].upper()}{text[1:]}" for text in texts]
+    return [f"{text[:1].upper()}{text[1:]}{'' if text.endswith('?') else '.'}" for text in texts]

@@ -86,7 +86,8 @@ def swap_claim(shown: Shown, slot: str, old: str) -> bool:
     old_content = {"which was empty": "empty", "which had no value": shown.before}.get(old, f"value {old.split()[-1]}")
     old_content = "top" if old == "which had top" else old_content
     is_valueless = old != "which had no value" or shown.before in ("empty", "top")
-    return shown.before == old_content and shown.after == new and is_valueless and slot == str(shown.seen.step.place.index)
+    is_there = slot == str(shown.seen.step.place.index)
+    return shown.before == old_content and shown.after == new and is_valueless and is_there
 
 
 def of_words(shown: Shown, name: str, value: str) -> bool:
@@ -117,7 +118,8 @@ CLAIMS: dict[str, Claim] = {
         shown.cells()[0].value is None and shown.cells()[1] == Cell(True, int(position), int(value)),
     r"takes (\d+) out of cell .* for position (\d+) now": lambda shown, value, index:
         shown.cells()[0].value == int(value) and (shown.cells()[1].index, shown.cells()[1].value) == (int(index), None),
-    r"marks cell .* unsafe": lambda shown: not shown.cells()[1].is_safe and shown.cells()[0].value == shown.cells()[1].value,
+    r"marks cell .* unsafe": lambda shown:
+        not shown.cells()[1].is_safe and shown.cells()[0].value == shown.cells()[1].value,
     r"moves cell .* on to index (\d+)": lambda shown, index:
         shown.cells()[1].index == int(index) and shown.cells()[0].value is shown.cells()[1].value is None,
     r"closes the tail .* which was (\w+)": lambda shown, state:
@@ -234,7 +236,8 @@ def all_checks(arguments: argparse.Namespace) -> Iterator[tuple[str, str]]:
         own = sum(count for key, count in counts.items() if key.startswith(f"{point} "))
         yield f"{point}, {own} steps", wrong_of(point, counts, faults)
     known = set(POINTS) == set(table)
-    yield f"{len(SENTENCES)} sentences, {sum(counts.values())} steps", "" if known else "other control points than the table"
+    fault = "" if known else "they have other control points than the table"
+    yield f"{len(SENTENCES)} sentences, {sum(counts.values())} steps", fault
 
 
 def main() -> int:

@@ -137,7 +137,7 @@ def words_fault(shown: Shown, asked: Moment, tree: list[Node], last_line: int) -
     for part, text in wanted.items():
         if shown[part] != text:
             return f"the {part} is {shown[part]}, wanted {text}"
-    if asked.reply.startswith("refused ") and f"{shown['why'][0][:1].upper()}{shown['why'][0][1:]}" != asked.told:
+    if asked.reply.startswith("refused ") and f"{shown['why'][0]}.".lower() != f"{asked.told.rstrip('.')}.".lower():
         return f"the line is {asked.reply}, and the page says {shown['why']}"
     if f"| head -n {asked.line} " not in f"| {shown['command']}":
         return f"the command is {shown['command']}"

@@ -173,19 +173,33 @@ function drawLanes(state, before) {
     put(part(row, ".number"), live ? String(at + 1) : "undone");
     row.setAttribute("aria-label", `${live ? `step ${at + 1}` : "undone"}, ${row.dataset.about}`);
   }
+  byId("border").classList.toggle("away", state.live === state.rows.length);
   byId("border").setAttribute("transform", `translate(0 ${run.height * (state.live - run.above)})`);
-  reveal(lanes, rows.get(state.rows.find((row) => moved.has(row))) || rows.get(state.last));
+  const current = [state.rows.find((row) => moved.has(row)), state.named.at(-1), state.last].find((row) => rows.has(row));
+  revealRow(rows.get(current));
 }
 
 const isLive = (state, at) => at < state.live;
 
+// Scrolls so far that an element is in sight.
 function reveal(scroller, element) {
   if (!element) return;
   const box = element.getBoundingClientRect(), frame = scroller.getBoundingClientRect();
-  const top = frame.top + (scroller === lanes ? byId("lane-heads").clientHeight : 0);
+  const top = frame.top + (scroller === lanes ? byId("lane-heads").clientHeight : 0), bottom = frame.top + scroller.clientHeight;
   const around = 2 * box.height;
   if (box.top < top) scroller.scrollTop -= top - box.top + around;
-  else if (box.bottom > frame.bottom) scroller.scrollTop += box.bottom - frame.bottom + around;
+  else if (box.bottom > bottom) scroller.scrollTop += box.bottom - bottom + around;
+}
+
+// A row is as wide as the lanes: what has to be in sight is what its step touches.
+function revealRow(row) {
+  if (!row) return;
+  reveal(lanes, row);
+  const boxes = all("circle, path", row).map((dot) => dot.getBoundingClientRect()), frame = lanes.getBoundingClientRect();
+  const left = Math.min(...boxes.map((box) => box.left)), right = Math.max(...boxes.map((box) => box.right));
+  const room = lanes.clientWidth / 5;
+  if (right + room / 2 > frame.left + lanes.clientWidth) lanes.scrollLeft += Math.min(right + room - frame.left - lanes.clientWidth, left - room / 2 - frame.left);
+  else if (left - room / 2 < frame.left) lanes.scrollLeft -= frame.left - left + room;
 }
 
 // The rows that depend on a row share a lane with it on which one of the two dots is filled.
@@ -253,7 +267,7 @@ function focusRow(number, by) {
   if (!next) return;
   stopAt(next);
   next.focus({ preventScroll: true });
-  reveal(lanes, next);
+  revealRow(next);
 }
 
 // The tab key comes to one row, and the arrows go on from there.

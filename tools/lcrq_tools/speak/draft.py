@@ -13,7 +13,7 @@ from lcrq_tools.options import add_output, write
 
 def main() -> int:
     """Writes the script; returns the exit status."""
-    parser = Parser(__doc__, "lesson.draft -o lesson.script")
+    parser = Parser(__doc__, "05-unsafe-cell.draft -o 05.script")
     parser.add_argument("draft", metavar="FILE.draft", help="the draft")
     add_output(parser, "OUT.script", "-")
     arguments = parser.parse_args()

@@ -40,6 +40,7 @@ OWN = {
     "open": "begins anew with a FILE: a .script, a .draft or a .trace",
     "quit": "ends the prompt, as Control-D does",
 }
+OPENED = (".script", ".draft", ".trace")  # how the names of files end that can be opened
 SAVED_BY = {".html": "page.page", ".svg": "draw.picture"}  # the module that makes such a file of a script
 
 
@@ -132,7 +133,7 @@ def completions(session: Session, before: str) -> list[str]:
         return ["yes", "no"]
     if word == "help" and not rest:
         return [*forms.WORDS, *OWN]
-    return sorted(path for path in os.listdir() if path.endswith((".script", ".draft", ".trace"))) if word == "open" else []
+    return sorted(path for path in os.listdir() if path.endswith(OPENED)) if word == "open" else []
 
 
 def completed(session: Session, line: str, text: str) -> list[str]:

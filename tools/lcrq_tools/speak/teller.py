@@ -112,7 +112,7 @@ def content_words(place: Place, content: str) -> str:
 
 def stand_words(number: int, actor: Actor) -> str:
     """Where an actor is, in words."""
-    return f"actor {number} is in no call" if actor.is_idle() else f"actor {number} is at {actor.point} of `{actor.call}`"
+    return f"actor {number} is " + ("in no call" if actor.is_idle() else f"at {actor.point} of `{actor.call}`")
 
 
 def actor_of(reply: str) -> Actor | None:
@@ -134,7 +134,8 @@ def depended_words(step: Step, later: Step) -> str:
         return f"step {later.number} is a later step of actor {later.event.actor}"
     place = later.place if later.place.kind != "whole" else step.place
     first, then = ("wrote" if each.wrote() else "read" for each in (step, later))
-    return f"step {later.number} {then} {place_words(place)}, which step {step.number} {first}{' too' * (first == then)}"
+    too = " too" if first == then else ""
+    return f"step {later.number} {then} {place_words(place)}, which step {step.number} {first}{too}"
 
 
 def origin_words(said: Said) -> str:
@@ -303,7 +304,8 @@ class Teller:
     def back_words(self, numbers: Sequence[int], before: Sequence[Step]) -> str:
         """What was taken back: steps of these numbers, of those that were live before."""
         if len(numbers) != 1:
-            return f"takes back {counted(len(numbers), 'step')}: {numbers_words(numbers)}" if numbers else "does nothing"
+            said = f"takes back {counted(len(numbers), 'step')}: {numbers_words(numbers)}"
+            return said if numbers else "does nothing"
         event = before[numbers[0] - 1].event
         actor = self.actor(event.actor)
         stand = stand_words(event.actor, actor) if actor else ""

@@ -63,7 +63,7 @@ def read_options() -> argparse.Namespace:
     options.add_world(parser)
     options.add_refused(parser)
     options.add_program(parser)
-    given = parser.parse_args()
+    given = options.settled(parser)
     if not given.check and not (given.script and given.out):
         parser.error("SCRIPT and -o START.trace are wanted, or --check TRACE")
     return given

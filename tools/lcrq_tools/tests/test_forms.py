@@ -17,7 +17,8 @@ class Forms(unittest.TestCase):
                 self.assertTrue(forms.is_command(forms.example_of(form)))
 
     def test_what_the_program_refuses_is_no_command(self) -> None:
-        lines = ["", " len", "go 01", "go 256", "enq 1 18446744073709551616", "mark A", "mark a-b-c-d-e-f-g-h-i", "show",
+        lines = ["", " len", "go 01", "go 256", "enq 1 18446744073709551616", "mark A", "mark a-b-c-d-e-f-g-h-i",
+                 "show",
                  "show cell 0.0", "go 1 ", "go  1", "starve 1 maybe", "undo -1", "len\r"]
         self.assertEqual([], [line for line in lines if forms.is_command(line)])
 

@@ -66,8 +66,10 @@ class Sentences(unittest.TestCase):
                          said("step 9; go 5; next 0.0; wrote; won; -", before, after, "5.0"))
 
     def test_a_step_is_named_by_its_number_and_its_actor(self) -> None:
-        drew = Seen(Step.read("step 4; go 2; tail 0.0; wrote; open 0; -"), actor("E4 enq 7"), actor("E5 enq 7"), "open 1")
-        self.assertEqual("step 4, actor 2, E4: adds 1 to the tail of ring 0.0, 0 → 1: actor 2 has position 0", of_step(drew))
+        step = Step.read("step 4; go 2; tail 0.0; wrote; open 0; -")
+        drew = Seen(step, actor("E4 enq 7"), actor("E5 enq 7"), "open 1")
+        wanted = "step 4, actor 2, E4: adds 1 to the tail of ring 0.0, 0 → 1: actor 2 has position 0"
+        self.assertEqual(wanted, of_step(drew))
         began = Seen(Step.read("step 3; deq 2; -; none; -; -"), actor("Idle none"), actor("Q1 deq"))
         self.assertEqual("actor 2 begins to dequeue", of_actor(began))
 
