@@ -2,13 +2,16 @@
 `check.py ports`: `tools/conform.py` has to tell them apart.
 """
 
+import os
 import random
 import re
+import sys
 from collections.abc import Iterator
 
-from lcrq_tools.checks.port_runs import DIFFERS, RINGS, Bench, agrees, differs, steps_with
+from lcrq_tools import program
+from lcrq_tools.checks.port_runs import DIFFERS, RINGS, Bench, Report, agrees, differs, steps_with
 from lcrq_tools.port.port_log import Record
-from lcrq_tools.program import script_of
+from lcrq_tools.program import TOP, script_of
 from lcrq_tools.records import Step
 
 LONG_CALLS = 1600  # of each of four threads: some 90,000 steps
@@ -133,7 +136,7 @@ def parts_fault(bench: Bench, log: list[str]) -> str:
     random.Random(1).shuffle(lines)
     files = [bench.folder / "one.log", bench.folder / "other.log"]
     for file, part in zip(files, (lines[::2], lines[1::2])):
-        file.write_text("\n".join(part), encoding="ascii")  # without the last line feed
+        file.write_bytes(script_of(part))
     status, text = bench.conform(*files)
     named, _, rest = text.partition("\n")
     return agrees((status, rest)) or ("" if ": the actors of the logs: thread-" in named else named)
@@ -158,6 +161,7 @@ def long_runs(bench: Bench) -> Iterator[tuple[str, str]]:
 # ---- Lines that can't be read --------------------------------------------------------------------
 
 # A log, and what is said of it.
+DIGITS = "1" * 5000
 UNREADABLE = [
     ("1 1", "a record is a stamp"),
     ("a 1 deq", "a record is a stamp"),
@@ -165,6 +169,11 @@ UNREADABLE = [
     ("1 1 enq 18446744073709551616", "a call is enq X"),
     ("1 1 E99 none", "no call, label, place or reply"),
     ("1 1 starve maybe", "the choice is yes or no"),
+    ("1 1 deq\n2 1 Q1 p; hh 3", "a.log:2: `2 1 Q1 p; hh 3`: `hh 3` is no reply, and an actor has no word hh"),
+    ("\ufeff1 1 deq", "a.log:1: `\ufeff1 1 deq`: a byte-order mark comes before it"),
+    (f"1 1 deq\n{DIGITS} 1 Q1", "a.log:2: `111"),
+    (f"1 1 enq {DIGITS}", "a word of it has 5,000 letters"),
+    (f"1 1 deq\n2 1 Q1 p\n3 1 Q2 {DIGITS}", "a.log:3: `3 1 Q2 111"),
     ("1 1 deq\n1 2 deq", "has the same stamp, by another actor"),
     ("1 1 E6 1 0; t", "should be words of an actor"),
     ("# nothing", "no record"),
@@ -177,4 +186,22 @@ def unreadable_runs(bench: Bench) -> Iterator[tuple[str, str]]:
     for log, said in UNREADABLE:
         status, text = bench.compare(log.splitlines())
         is_right = status == 2 and said in text and text.count("\n") == 1
-        yield f"the line `{log.splitlines()[-1]}`", "" if is_right else f"status {status}: {text}"
+        yield f"the line `{log.splitlines()[-1][:40]}`", "" if is_right else f"status {status}: {text}"
+    yield "standard input given twice", status_fault(bench.conform("-", "-"), "- is given twice")
+    yield "a pipe that nobody reads", closed_pipe_fault(bench)
+
+
+def status_fault(report: Report, said: str) -> str:
+    """What is wrong where a tool should say this in one line, with status 2, or nothing."""
+    status, text = report
+    return "" if status == 2 and said in text and text.count("\n") == 1 else f"status {status}: {text}"
+
+
+def closed_pipe_fault(bench: Bench) -> str:
+    """What is wrong where nobody reads what the tool says of a log that differs, or nothing."""
+    read, write = os.pipe()
+    os.close(read)
+    command = [sys.executable, str(TOP / "tools/conform.py"), bench.file_of(["1 1 Q1"]), "--program", bench.program]
+    with os.fdopen(write, "wb") as output:
+        ended = program.run(command, stdout=output)
+    return status_fault((ended.status, ended.errors), "nobody reads what is said here")

@@ -40,7 +40,7 @@ class Bench:
     def file_of(self, log: Iterable[str]) -> str:
         """A file with this log."""
         file = self.folder / "a.log"
-        file.write_bytes(script_of(log))
+        file.write_bytes(script_of(log, "utf-8"))
         return str(file)
 
     def compare(self, log: Iterable[str], *options: object) -> Report:
@@ -66,7 +66,7 @@ class Bench:
 
     def records_of(self, log: Iterable[str]) -> list[Record]:
         """The records of a log."""
-        return read_logs([self.file_of(log)])[0]
+        return read_logs([self.file_of(log)]).records
 
     def files_fault(self, folder: Path, text: str) -> str:
         """What is wrong with the files about a difference, or nothing: the script leads to the model's

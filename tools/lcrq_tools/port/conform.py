@@ -1,7 +1,7 @@
 """Compares a port of the queue with the model: replays a log of the port's accesses by the program,
 and names the first access where the two differ, with what is around it.
 
-    python3 tools/conform.py LOG.. [--ring R | --trace TRACE] [--go-on] [-o DIR] [--program P]
+    python3 tools/conform.py LOG.. [--ring R | --trace TRACE] [--cut] [--go-on] [-o DIR] [--program P]
 
 The form of a log is in docs/MANUAL.md under PORTS; `-` is standard input. The logs are merged by
 their stamps. Over a fresh world with rings of R cells, 4 if left out, or over a trace, each record
@@ -9,8 +9,11 @@ is made as a step, and what it says is compared with the replies: the control po
 access, the answer, the reply of the call, and words of the actor. What a record leaves out is not
 compared. A run may be longer than the most live steps: it is frozen then, and goes on.
 
+Where a log is cut is said at the end.
+
 The status is 0 if all agree, in one line; 1 if something differs, and then the first difference is
-told; 2 if a log can't be read, with the record, and for any other fault. With -o the folder DIR gets
+told, and for a log that is cut, unless --cut permits it; 2 if a log can't be read, with the record, and
+for any other fault, Control-C and a pipe that nobody reads. With -o the folder DIR gets
 a script to there, the start before it, a picture and a page. With
 --go-on the port's side is taken at each difference, and all are listed, by label and kind. At the end
 come values that were put and never taken, taken more often than put, or never put, and calls that
@@ -20,16 +23,18 @@ never ended.
 import argparse
 import collections
 import contextlib
+import os
 import sys
 import tempfile
 import time
+import traceback
 from collections.abc import Iterator
 from pathlib import Path
 
 from lcrq_tools import options
 from lcrq_tools.faults import FAULTS, Fault, Parser, say, text_of
 from lcrq_tools.port.port_compare import Comparison, Difference
-from lcrq_tools.port.port_log import Record, Unreadable, read_logs
+from lcrq_tools.port.port_log import Logs, Record, Unreadable, read_logs
 from lcrq_tools.port.port_replay import Replay
 from lcrq_tools.port.port_report import About
 from lcrq_tools.port.port_side import Side
@@ -50,6 +55,7 @@ def parser() -> argparse.ArgumentParser:
     command.add_argument("logs", metavar="LOG", nargs="+", help="a log; - is standard input")
     options.add_ring(command)
     options.add_trace(command)
+    command.add_argument("--cut", action="store_true", help="let a log end in the middle of a record")
     command.add_argument("--go-on", action="store_true", help="take the port's side at each difference, and list all")
     files = "the folder for the files about the first difference"
     command.add_argument("-o", dest="output", metavar="DIR", type=Path, help=files)
@@ -186,44 +192,85 @@ def grouped(differences: list[tuple[str, str, str]]) -> Iterator[str]:
         yield f"    changed: {rows[0][1] or 'nothing'}"
 
 
+def first_difference(comparison: Comparison, progress: Progress) -> Difference | None:
+    """The first difference. Control-C ends the search, and it is said how far it was."""
+    try:
+        return comparison.difference(progress)
+    except KeyboardInterrupt as fault:
+        far = f"{comparison.next:,} of {len(comparison.records):,} records agree so far"
+        raise Fault(f"interrupted: {far}") from fault
+    finally:
+        progress.end()
+
+
 def compare(given: argparse.Namespace, folder: Path) -> int:
     """Compares the logs; returns the exit status."""
-    records, actors = read_logs(given.logs)
-    if actors:
-        named = (f"{name} is {number}" for number, name in enumerate(actors, 1))
+    logs = read_logs(given.logs)
+    if logs.actors:
+        named = (f"{name} is {number}" for number, name in enumerate(logs.actors, 1))
         say(f"the actors of the logs: {', '.join(named)}")
-    with contextlib.closing(Replay(given.program, folder, options_of(given, records))) as replay:
-        most = max(record.actor for record in records)
+    with contextlib.closing(Replay(given.program, folder, options_of(given, logs.records))) as replay:
+        most = max(record.actor for record in logs.records)
         if most > len(replay.states):
             raise Unreadable(f"the logs have an actor {most}, and the trace {len(replay.states)} actors")
-        return compare_records(given, Comparison(replay, records))
+        is_different = compare_records(given, replay, logs)
+    sys.stdout.flush()
+    return 1 if is_different or logs.cuts and not given.cut else 0
 
 
-def compare_records(given: argparse.Namespace, comparison: Comparison) -> int:
-    """Compares the records, and prints what comes of it; returns the exit status."""
-    output: Path | None = given.output
-    progress = Progress(len(comparison.records))
-    found = comparison.difference(progress)
-    progress.end()
-    lines = [f"agrees: {summary(comparison)}"]
-    if found:
-        about = About(comparison, found)
-        lines = [*about.text(), f"  before it {summary(comparison)}"]
-        lines += [f"  {line}" for line in about.write(output)] if output else []
-    print("\n".join(lines), flush=True)
+def compare_records(given: argparse.Namespace, replay: Replay, logs: Logs) -> bool:
+    """Compares the records, and prints what comes of it; returns whether they differ."""
+    comparison = Comparison(replay, logs.records)
+    progress = Progress(len(logs.records))
+    found = first_difference(comparison, progress)
+    for line in report_of(given, comparison, found) if found else [f"agrees: {summary(comparison)}"]:
+        print(line, flush=True)
     if found and given.go_on:
         differences, stopped = go_on(comparison, found, progress)
         progress.end()
         print("\n".join(filter(None, [*grouped(differences), stopped, summary(comparison)])))
     sys.stdout.writelines(f"{line}\n" for line in Ledger(comparison).lines())
-    return 1 if found else 0
+    if logs.cuts:
+        print(f"the log is cut: {first_of(logs.cuts)}")
+    return bool(found)
+
+
+def report_of(given: argparse.Namespace, comparison: Comparison, found: Difference) -> Iterator[str]:
+    """What is said of the first difference."""
+    about = About(comparison, found)
+    yield from about.text()
+    yield f"  before it {summary(comparison)}"
+    yield from (f"  {line}" for line in about.write(given.output)) if given.output else ()
+
+
+def leave_output() -> None:
+    """Lets what is still to be written go nowhere, where nobody reads it."""
+    with contextlib.suppress(OSError, ValueError):
+        os.dup2(os.open(os.devnull, os.O_WRONLY), sys.stdout.fileno())
 
 
 def main(words: list[str] | None = None) -> int:
-    """Compares the logs of a command line. Its status is 1 where they differ, and so 2 for a fault."""
+    """Compares the logs of a command line. Its status is 1 where they differ or are cut, and so 2 for a fault,
+    whatever it is."""
     try:
         given = parser().parse_args(words)
-        with tempfile.TemporaryDirectory() as folder:
-            return compare(given, Path(folder))
     except FAULTS as fault:
         raise Fault(text_of(fault), 2) from fault
+    return status_with(given)
+
+
+def status_with(given: argparse.Namespace) -> int:
+    """The exit status with these options."""
+    try:
+        with tempfile.TemporaryDirectory() as folder:
+            return compare(given, Path(folder))
+    except KeyboardInterrupt as fault:
+        raise Fault("interrupted", 2) from fault
+    except BrokenPipeError as fault:
+        leave_output()
+        raise Fault("nobody reads what is said here: the pipe is closed", 2) from fault
+    except FAULTS as fault:
+        raise Fault(text_of(fault), 2) from fault
+    except Exception as fault:
+        traceback.print_exc()
+        raise Fault("this is a fault of the tool itself", 2) from fault

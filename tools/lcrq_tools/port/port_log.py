@@ -5,6 +5,7 @@ A record is a line `STAMP ACTOR WHAT`: a call, a step with its label or its plac
 Segments may have any names; `Names` learns which segment of the model each of them is.
 """
 
+import io
 import itertools
 import re
 import sys
@@ -18,6 +19,9 @@ from lcrq_tools.options import MOST_ACTORS
 from lcrq_tools.records import CALLS, NOTHING, PLACES, WORDS
 
 MOST_NUMBER = 2**64 - 1
+MOST_LETTERS = 1000  # of a word; Python reads no number of some thousand digits
+SHOWN_LETTERS = 100  # of a record that can't be read
+BYTE_ORDER_MARKS = ("\ufeff", "\ufffd\ufffd")  # of UTF-8, and how one of UTF-16 comes through
 
 ACCESSES = ("read", "wrote", "wrote index")
 CHOICES = ("yes", "no")
@@ -65,6 +69,15 @@ class Record:
         return [self.line(), *step, f"actor {self.actor}"]
 
 
+@dataclass(frozen=True)
+class Logs:
+    """What all logs of a command line have."""
+
+    records: list[Record]  # in the order of their stamps
+    actors: list[str]  # the names of the actors, the first that of actor 1; none where they are 1 to 16 already
+    cuts: list[str]  # where a log is cut, and what that is
+
+
 # ---- Records -------------------------------------------------------------------------------------
 
 
@@ -75,8 +88,15 @@ def is_place(words: list[str]) -> bool:
 
 def number_of(word: str) -> str:
     """A number of a log as the program writes it; nothing for what is none."""
-    number = int(word, 16 if "x" in word else 10) if NUMBER.fullmatch(word) else MOST_NUMBER + 1
+    is_number = len(word) <= MOST_LETTERS and NUMBER.fullmatch(word)
+    number = int(word, 16 if "x" in word else 10) if is_number else MOST_NUMBER + 1
     return str(number) if number <= MOST_NUMBER else ""
+
+
+def is_reply(words: list[str]) -> bool:
+    """Whether a call may end with these words. A port may fail in ways that the model doesn't know."""
+    is_value = words[0] == "value" and len(words) == 2 and bool(number_of(words[1]))
+    return is_value or len(words) == 1 and words[0].islower()
 
 
 def said(words: list[str]) -> tuple[str, ...]:
@@ -95,9 +115,9 @@ def read_call(record: Record, words: list[str]) -> None:
 
 def read_choice(record: Record, words: list[str]) -> None:
     """Puts the choice of the schedule into its record."""
-    if words and (len(words) > 1 or words[0] not in CHOICES):
+    if len(words) != 1 or words[0] not in CHOICES:
         raise Unreadable("the choice is yes or no")
-    record.choice = words[0] if words else ""
+    record.choice = words[0]
 
 
 def read_tail(record: Record, parts: list[list[str]]) -> None:
@@ -105,9 +125,11 @@ def read_tail(record: Record, parts: list[list[str]]) -> None:
     for part in parts:
         if part in ([], [NOTHING]):
             continue
-        if part[0] not in WORDS:
+        if is_reply(part) and part[0] not in WORDS:
             record.reply = tuple(part)
-        elif len(part) % 2 or not set(part[::2]) <= set(WORDS):
+        elif unknown := [word for word in part[::2] if word not in WORDS]:
+            raise Unreadable(f"`{' '.join(part)}` is no reply, and an actor has no word {unknown[0]}")
+        elif len(part) % 2:
             raise Unreadable(f"`{' '.join(part)}` should be words of an actor, each with its value")
         else:
             record.words += tuple(part)
@@ -142,6 +164,10 @@ def read_step(record: Record, words: list[str], parts: list[list[str]], labels: 
 def record_of(where: str, text: str, labels: set[str]) -> Record:
     """The record of a line."""
     first, *parts = (part.split() for part in text.split(";"))
+    if text.startswith(BYTE_ORDER_MARKS):
+        raise Unreadable("a byte-order mark comes before it: a log is plain UTF-8")
+    if long := next((word for part in (first, *parts) for word in part if len(word) > MOST_LETTERS), ""):
+        raise Unreadable(f"a word of it has {len(long):,} letters, and may have {MOST_LETTERS:,}")
     if len(first) < 3 or not first[0].isdecimal():
         raise Unreadable("a record is a stamp, which is a whole number, an actor, and what it did")
     record, words = Record(int(first[0]), first[1], where, text), first[2:]
@@ -149,7 +175,7 @@ def record_of(where: str, text: str, labels: set[str]) -> Record:
         read_call(record, words)
     elif words[0] in labels or words[0] in (NOTHING, "starve") or is_place(words):
         read_step(record, words, parts, labels)
-    elif words[0] == "value" and len(words) == 2 and number_of(words[1]) or len(words) == 1 and words[0].islower():
+    elif is_reply(words):
         record.kind, record.reply = "reply", tuple(words)
     else:
         raise Unreadable("no call, label, place or reply comes after the actor")
@@ -159,22 +185,32 @@ def record_of(where: str, text: str, labels: set[str]) -> Record:
 # ---- Logs ----------------------------------------------------------------------------------------
 
 
-def lines_of(name: str) -> Iterator[tuple[str, str]]:
-    """The lines of a log, each with where it is; `-` is standard input."""
+def lines_of(name: str, cuts: list[str]) -> Iterator[tuple[str, str]]:
+    """The lines of a log, each with where it is; `-` is standard input. Adds where the log is cut. A line
+    without a line feed may be half a record, and is left out."""
     where = "standard input" if name == "-" else name
-    with sys.stdin if name == "-" else Path(name).open(encoding="utf-8", errors="replace") as log:
-        for number, text in enumerate(map(str.strip, log), 1):
-            if text and not text.startswith("#"):
-                yield f"{where}:{number}", text
+    file = sys.stdin.buffer if name == "-" else Path(name).open("rb")
+    with io.TextIOWrapper(file, encoding="utf-8", errors="replace") as log:
+        for number, line in enumerate(log, 1):
+            text = line.strip()
+            if not text or text.startswith("#"):
+                continue
+            if not line.endswith("\n"):
+                cuts.append(f"{where}:{number} has no line feed and is not compared")
+                return
+            if text.endswith(";"):
+                cuts.append(f"{where}:{number} ends behind a `;`")
+            yield f"{where}:{number}", text
 
 
-def records_of(name: str, labels: set[str]) -> Iterator[Record]:
-    """The records of a log, in the order of the file."""
-    for where, text in lines_of(name):
+def records_of(name: str, labels: set[str], cuts: list[str]) -> Iterator[Record]:
+    """The records of a log, in the order of the file. Adds where it is cut."""
+    for where, text in lines_of(name, cuts):
         try:
             yield record_of(where, text, labels)
         except Unreadable as fault:
-            raise Unreadable(f"{where}: `{text}`: {fault}") from fault
+            more = "..." if len(text) > SHOWN_LETTERS else ""
+            raise Unreadable(f"{where}: `{text[:SHOWN_LETTERS]}{more}`: {fault}") from fault
 
 
 def check_order(records: list[Record]) -> None:
@@ -199,15 +235,17 @@ def number_actors(records: list[Record]) -> list[str]:
     return [] if has_numbers else names
 
 
-def read_logs(names: list[str]) -> tuple[list[Record], list[str]]:
-    """The records of all logs in the order of their stamps, and the names of the actors as above."""
-    labels = set(model.read(model.PAGE.read_text(encoding="utf-8"))[0])
-    records = [record for name in names for record in records_of(name, labels)]
+def read_logs(names: list[str]) -> Logs:
+    """What all logs have."""
+    if names.count("-") > 1:
+        raise Unreadable("standard input can be read once, and - is given twice")
+    labels, cuts = set(model.read(model.PAGE.read_text(encoding="utf-8"))[0]), list[str]()
+    records = [record for name in names for record in records_of(name, labels, cuts)]
     if not records:
-        raise Unreadable(f"{' '.join(names)}: no record")
+        raise Unreadable("; ".join([f"{' '.join(names)}: no record", *cuts]))
     records.sort(key=lambda record: record.stamp)
     check_order(records)
-    return records, number_actors(records)
+    return Logs(records, number_actors(records), cuts)
 
 
 # ---- Names ---------------------------------------------------------------------------------------

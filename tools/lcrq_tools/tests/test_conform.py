@@ -9,7 +9,7 @@ from lcrq_tools.faults import Fault
 from lcrq_tools.port import conform
 from lcrq_tools.port.conform import Ledger, Progress, parser
 from lcrq_tools.port.port_compare import Comparison
-from lcrq_tools.port.port_log import Unreadable
+from lcrq_tools.port.port_log import Logs, Unreadable
 from lcrq_tools.port.port_side import Side
 from lcrq_tools.tests.replay_stub import ENQUEUE, LOG, Told, compared, records_of, with_record
 from lcrq_tools.tests.stubs import NO_PROGRAM, told, with_program
@@ -134,10 +134,10 @@ class Ends(unittest.TestCase):
         """The exit status for these records, and the lines."""
         with with_program():
             given = parser().parse_args(["a.log", *words.split()])
-        output = io.StringIO()
+        logs, output = Logs(records_of(*texts), [], []), io.StringIO()
         with contextlib.redirect_stdout(output):
-            status = conform.compare_records(given, compared(*texts))
-        return status, output.getvalue().splitlines()
+            is_different = conform.compare_records(given, Told(), logs)
+        return int(is_different), output.getvalue().splitlines()
 
     def test_a_log_that_agrees_is_one_line(self) -> None:
         counts = "5 labels, 4 places, 6 answers, 1 replies, 2 words compared"
@@ -165,10 +165,37 @@ class Ends(unittest.TestCase):
             given = parser().parse_args(["a.log"])
         with (
             mock.patch.object(conform, "Replay", lambda *_: Told(ENQUEUE)),
-            mock.patch.object(conform, "read_logs", lambda _: (records_of("1 3 deq"), [])),
+            mock.patch.object(conform, "read_logs", lambda _: Logs(records_of("1 3 deq"), [], [])),
             self.assertRaisesRegex(Unreadable, "^the logs have an actor 3, and the trace 2 actors$"),
         ):
             conform.compare(given, Told().folder)
+
+    def ended(self, reason: object = None, *words: str, cuts: list[str] = []) -> tuple[int, str, str]:
+        """How it ends where this happens to the comparison, for a log with these cuts."""
+        with (
+            with_program(), mock.patch.object(conform, "Replay", lambda *_: Told()),
+            mock.patch.object(conform, "read_logs", lambda _: Logs(records_of(*LOG), [], cuts)),
+            mock.patch.object(Comparison, "compare", mock.Mock(side_effect=reason, return_value=None)),
+            mock.patch.object(Comparison, "difference", Comparison.compare if reason else lambda *_: None),
+        ):
+            return told(conform.main, "conform.py", "a.log", "--program", NO_PROGRAM, *words)
+
+    def test_a_cut_log_is_named_last_and_has_status_1(self) -> None:
+        for words, wanted in ((), 1), (("--cut",), 0):
+            status, output, _ = self.ended(None, *words, cuts=["a.log:7 ends behind a `;`"])
+            self.assertEqual((status, output.splitlines()[-1]), (wanted, "the log is cut: a.log:7 ends behind a `;`"))
+
+    def test_status_1_is_a_difference_and_no_fault(self) -> None:
+        rows = [
+            (KeyboardInterrupt, "conform.py: interrupted: 0 of 7 records agree so far\n"),
+            (BrokenPipeError, "conform.py: nobody reads what is said here: the pipe is closed\n"),
+            (Fault("a fault"), "conform.py: a fault\n"),
+            (ValueError("a slip"), "ValueError: a slip\nconform.py: this is a fault of the tool itself\n"),
+        ]
+        for reason, said in rows:
+            with self.subTest(said):
+                status, _, errors = self.ended(reason)
+                self.assertEqual((status, errors[-len(said) :]), (2, said))
 
     def test_a_log_that_can_not_be_read_has_status_2(self) -> None:
         ended = told(conform.main, "conform.py", "nowhere.log", "--program", NO_PROGRAM)

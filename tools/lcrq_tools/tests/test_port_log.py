@@ -6,7 +6,7 @@ from pathlib import Path
 
 from lcrq_tools import model
 from lcrq_tools.port import port_log
-from lcrq_tools.port.port_log import Names, Record, Unreadable
+from lcrq_tools.port.port_log import Logs, Names, Record, Unreadable
 
 LABELS = set(model.read(model.PAGE.read_text(encoding="utf-8"))[0])
 
@@ -61,6 +61,14 @@ class Records(unittest.TestCase):
             (f"1 T0 enq {number}", "with X up to 18446744073709551615"),
             ("1 T0 deq 4", "a call is enq X, deq"),
             ("1 T0 starve maybe", "the choice is yes or no"),
+            ("1 T0 starve", "the choice is yes or no"),
+            ("1 T0 E9 1; hh 3", "^`hh 3` is no reply, and an actor has no word hh$"),
+            ("1 T0 E9 1; t 3 hh 3", "an actor has no word hh$"),
+            ("1 T0 E9 1; value v", "an actor has no word value$"),
+            ("\ufeff1 T0 deq", "a byte-order mark comes before it"),
+            ("\ufffd\ufffd1\0 \0", "a byte-order mark comes before it"),
+            (f"{'1' * 5000} T0 deq", "^a word of it has 5,000 letters, and may have 1,000$"),
+            (f"1 T0 E4 open {'1' * 5000}", "^a word of it has 5,000 letters"),
             ("1 T0 E99 cell 0.0 1", "no call, label, place or reply"),
             ("1 T0 tail 0.0; read; open 3; t 3 closed", "should be words of an actor, each with its value"),
         ):
@@ -72,10 +80,10 @@ class Records(unittest.TestCase):
         self.assertEqual([port_log.number_of(it) for it in words], ["31", "7", "18446744073709551615", "", "", "", ""])
 
 
-class Logs(unittest.TestCase):
+class Merged(unittest.TestCase):
     """Several logs."""
 
-    def read(self, *logs: str) -> tuple[list[Record], list[str]]:
+    def read(self, *logs: str) -> Logs:
         """What is read of these logs."""
         with tempfile.TemporaryDirectory() as folder:
             names = [str(Path(folder) / f"{at}.log") for at in range(len(logs))]
@@ -84,13 +92,13 @@ class Logs(unittest.TestCase):
             return port_log.read_logs(names)
 
     def test_logs_are_merged_by_stamp(self) -> None:
-        records, actors = self.read("# a comment\n1 a deq\n\n4 a Q1\n", "2 b enq 7\n3 b E1\n")
-        self.assertEqual([(it.stamp, it.actor) for it in records], [(1, 1), (2, 2), (3, 2), (4, 1)])
-        self.assertEqual(actors, ["a", "b"])
+        logs = self.read("# a comment\n1 a deq\n\n4 a Q1\n", "2 b enq 7\n3 b E1\n")
+        self.assertEqual([(it.stamp, it.actor) for it in logs.records], [(1, 1), (2, 2), (3, 2), (4, 1)])
+        self.assertEqual((logs.actors, logs.cuts), (["a", "b"], []))
 
     def test_numbers_of_actors_stay(self) -> None:
-        records, actors = self.read("1 3 deq\n2 16 deq\n")
-        self.assertEqual(([it.actor for it in records], actors), ([3, 16], []))
+        logs = self.read("1 3 deq\n2 16 deq\n")
+        self.assertEqual(([it.actor for it in logs.records], logs.actors), ([3, 16], []))
 
     def test_a_fault_names_file_line_and_text(self) -> None:
         with self.assertRaisesRegex(Unreadable, r"0\.log:2: `2 a nowhere 1`: no call, label, place or reply"):
@@ -103,6 +111,22 @@ class Logs(unittest.TestCase):
     def test_a_world_has_sixteen_actors(self) -> None:
         with self.assertRaisesRegex(Unreadable, "^the logs have 17 actors, and a world has 16 at most$"):
             self.read("".join(f"{at} T{at} deq\n" for at in range(17)))
+
+    def test_a_cut_log_is_read_to_its_last_whole_line(self) -> None:
+        logs = self.read("1 a deq\n3 a Q1 p; -;\n", "2 b deq\n4 b Q1", "# all", "5 a Q2 0\n6 a Q3 none\n# end")
+        self.assertEqual([it.stamp for it in logs.records], [1, 2, 3, 5, 6])
+        ends = [it.rpartition("/")[2] for it in logs.cuts]
+        self.assertEqual(ends, ["0.log:2 ends behind a `;`", "1.log:2 has no line feed and is not compared"])
+        with self.assertRaisesRegex(Unreadable, "no record; .*0.log:1 has no line feed"):
+            self.read("1 a deq")
+
+    def test_a_long_record_that_can_not_be_read_is_shown_in_part(self) -> None:
+        with self.assertRaisesRegex(Unreadable, r"0\.log:1: `1{100}\.\.\.`: a word of it has 5,000 letters"):
+            self.read(f"{'1' * 5000} a deq\n")
+
+    def test_standard_input_is_read_once(self) -> None:
+        with self.assertRaisesRegex(Unreadable, "^standard input can be read once, and - is given twice$"):
+            port_log.read_logs(["-", "-"])
 
     def test_an_empty_or_missing_log_is_a_fault(self) -> None:
         with self.assertRaisesRegex(Unreadable, "no record$"):
