@@ -1,7 +1,8 @@
 """Compares a port of the queue with the model: replays a log of the port's accesses by the program,
 and names the first access where the two differ, with what is around it.
 
-    python3 tools/conform.py LOG.. [--ring R | --trace TRACE] [--cut] [--go-on] [-o DIR] [--program P]
+    python3 tools/conform.py LOG.. [--ring R | --trace TRACE] [--strict] [--reuse] [--cut] [--go-on] [-o DIR]
+        [--program P]
 
 The form of a log is in docs/MANUAL.md under PORTS; `-` is standard input. The logs are merged by
 their stamps. Over a fresh world with rings of R cells, 4 if left out, or over a trace, each record
@@ -9,7 +10,9 @@ is made as a step, and what it says is compared with the replies: the control po
 access, the answer, the reply of the call, and words of the actor. What a record leaves out is not
 compared. A run may be longer than the most live steps: it is frozen then, and goes on.
 
-Where a log is cut is said at the end.
+A log that has records of E10 has all of them; of one that has none, the choices follow from what comes
+after, unless --strict asks for them. A segment whose memory is used again while an actor, an end or a next
+still has it differs, unless --reuse permits it. Where a log is cut is said at the end.
 
 The status is 0 if all agree, in one line; 1 if something differs, and then the first difference is
 told, and for a log that is cut, unless --cut permits it; 2 if a log can't be read, with the record, and
@@ -55,6 +58,9 @@ def parser() -> argparse.ArgumentParser:
     command.add_argument("logs", metavar="LOG", nargs="+", help="a log; - is standard input")
     options.add_ring(command)
     options.add_trace(command)
+    command.add_argument("--strict", action="store_true", help="ask for a record of each choice at E10")
+    reuse = "let memory be used again while an actor, an end or a next still has it"
+    command.add_argument("--reuse", action="store_true", help=reuse)
     command.add_argument("--cut", action="store_true", help="let a log end in the middle of a record")
     command.add_argument("--go-on", action="store_true", help="take the port's side at each difference, and list all")
     files = "the folder for the files about the first difference"
@@ -157,7 +163,12 @@ def first_of(words: list[str]) -> str:
 def summary(comparison: Comparison) -> str:
     """How much was compared."""
     counts = [f"{count:,} {kind}" for kind, count in comparison.compared.items()]
-    chosen = f"; {comparison.chosen:,} of the choices at E10 follow from what comes after" if comparison.chosen else ""
+    chosen = ""
+    if comparison.chosen and comparison.has_choices:
+        chosen = f"; {comparison.chosen:,} of the choices at E10 follow from what comes after"
+    elif comparison.chosen:
+        count = counted(comparison.chosen, "choice")
+        chosen = f"; nothing checked the decision to starve: no record has E10, so {count} there followed from the next"
     made = f"{comparison.replay.count():,} steps, {comparison.accesses:,} accesses"
     return f"{made} over rings of {comparison.replay.ring}: {', '.join(counts)} compared{chosen}"
 
@@ -220,7 +231,7 @@ def compare(given: argparse.Namespace, folder: Path) -> int:
 
 def compare_records(given: argparse.Namespace, replay: Replay, logs: Logs) -> bool:
     """Compares the records, and prints what comes of it; returns whether they differ."""
-    comparison = Comparison(replay, logs.records)
+    comparison = Comparison(replay, logs.records, asks_choices=given.strict, permits_reuse=given.reuse)
     progress = Progress(len(logs.records))
     found = first_difference(comparison, progress)
     for line in report_of(given, comparison, found) if found else [f"agrees: {summary(comparison)}"]:

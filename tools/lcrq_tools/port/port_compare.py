@@ -4,9 +4,10 @@ differs.
 
 import itertools
 from collections.abc import Callable, Sequence
-from dataclasses import dataclass
+from dataclasses import dataclass, replace
 
-from lcrq_tools.port.port_log import CHOICES, Names, Record
+from lcrq_tools.port import port_reuse
+from lcrq_tools.port.port_log import CHOICES, Names, Record, Reuse
 from lcrq_tools.port.port_replay import Replay
 from lcrq_tools.records import NOTHING, Actor, Event, Refusal, Step, is_made
 
@@ -22,7 +23,7 @@ class Difference:
     index: int  # of the record, from 0
     record: Record
     step: int  # the number of the model's step
-    kind: str  # "line", "call", "place", "access", "answer", "reply", "words" or "refused"
+    kind: str  # "line", "choice", "call", "place", "access", "answer", "reply", "words", "reuse" or "refused"
     port: str  # what the port did, in the model's words
     model: str  # what the model does
     point: str  # the model's control point
@@ -37,9 +38,14 @@ class Difference:
 class Comparison:
     """The records of a log beside a run of the program."""
 
-    def __init__(self, replay: Replay, records: list[Record]):
-        self.replay, self.records = replay, records
+    def __init__(
+        self, replay: Replay, records: list[Record], *, asks_choices: bool = False, permits_reuse: bool = False
+    ):
+        self.replay, self.records, self.permits_reuse = replay, records, permits_reuse
+        self.has_choices = any(record.choice for record in records)
+        self.asks_choices = asks_choices or self.has_choices  # so one that is missing is a difference
         self.names = Names()
+        self.sent = replay.count()  # how many steps the program has made, of which the last are not compared yet
         self.start = replay.start()["start"]  # the parts with which it began
         self.next = 0  # the next record
         self.replied: dict[int, str] = {}  # what the model replied to the last call of an actor
@@ -57,21 +63,26 @@ class Comparison:
             if self.replay.live() > FREEZE_AT:
                 self.replay.open_start(self.replay.start())
             found = self.compare(self.records[self.next : self.next + RECORDS])
-            if found and not (found.model.startswith(NEEDS_CHOICE) and self.choose(found.record)):
+            if found and found.model.startswith(NEEDS_CHOICE):
+                if self.asks_choices:
+                    return replace(found, kind="choice")
+                found = None if self.choose(found.record) else found
+            if found:
                 return found
         return None
 
     def compare(self, records: list[Record]) -> Difference | None:
         """Compares these records; at the first that differs, the model is as before it."""
-        begin, number, asked = self.replay.count(), self.replay.live(), []
+        number, asked = self.replay.live(), []
         for record in records:
             number += record.kind != "reply"
             asked.append(record.asked(number))
         replies = self.replay.ask([line for lines in asked for line in lines])
+        self.sent = self.replay.count() + sum(map(is_made, replies))
         unread = iter(replies)
         for record, lines in zip(records, asked):
             if found := self.compare_one(record, [*itertools.islice(unread, len(lines))]):
-                self.replay.ask([f"back {sum(map(is_made, replies)) - (self.replay.count() - begin)}"])
+                self.replay.ask([f"back {self.sent - self.replay.count()}"])
                 return found
         return None
 
@@ -124,13 +135,39 @@ class Comparison:
         if record.label and record.label != point:
             return self.differ(record, "line", record.label, point, made)
         found = self.compare_made(record, made, state)
+        if self.names.again:
+            found = self.compare_reuse(record, self.names.again, made, state, found)
         if not found:
             self.note(record, made, state)
+        return found
+
+    def compare_reuse(
+        self, record: Record, again: Reuse, made: Step, state: Actor, found: Difference | None
+    ) -> Difference | None:
+        """Finds whether a name of this record may be used again. A first use of it differs until then."""
+        holders = [] if self.permits_reuse else self.holders(again.old)
+        if holders:
+            is_making = made.answer.startswith("made ")
+            how = "was made anew" if is_making else f"is used for {again.segment}, which has no name yet,"
+            model = f"{' and '.join(holders)}: it was {again.old}"
+            return self.differ(record, "reuse", f"{again.name} {how}", model, made)
+        if found:
+            self.names.learn(again.name, again.segment)
+            found = self.compare_made(record, made, state)
+        return found
+
+    def holders(self, segment: str) -> list[str]:
+        """Who has a segment before the step that is compared."""
+        ahead = self.sent - self.replay.count()
+        self.replay.ask([f"back {ahead}"])
+        found = [*port_reuse.holders(self.replay, segment)]
+        self.replay.ask([f"forward {ahead}"])
         return found
 
     def compare_made(self, record: Record, made: Step, state: Actor) -> Difference | None:
         """Compares what a step did, and the actor's words after it."""
         answer = made.answer or NOTHING
+        self.names.again = None
         if answer.startswith("made "):
             self.learn_segment(record, made.place.segment)
         rows: list[tuple[str, Sequence[str], str]] = [

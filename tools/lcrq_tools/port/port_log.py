@@ -78,6 +78,15 @@ class Logs:
     cuts: list[str]  # where a log is cut, and what that is
 
 
+@dataclass(frozen=True)
+class Reuse:
+    """A name that was another segment's before."""
+
+    name: str
+    old: str
+    segment: str
+
+
 # ---- Records -------------------------------------------------------------------------------------
 
 
@@ -253,17 +262,25 @@ def read_logs(names: list[str]) -> Logs:
 
 class Names:
     """The segments of the model by the names that the port gives them. A name is learned when its
-    segment is made, or the first time that it is seen where the model has a segment without one."""
+    segment is made, or the first time that it is seen where the model has a segment without one. So a name
+    may be used again; whether it may be, `port_reuse.py` says."""
 
     def __init__(self) -> None:
         self.segments: dict[str, str] = {}  # the port's name, and the segment
         self.names: dict[str, str] = {}  # the segment, and the port's name
+        self.again: Reuse | None = None  # the last name that was another segment's before
 
     def learn(self, name: str, segment: str) -> None:
         """Learns a name; an older meaning of it, or an older name of the segment, is forgotten."""
+        self.note_reuse(name, segment)
         self.names.pop(self.segments.get(name, ""), None)
         self.segments.pop(self.names.get(segment, ""), None)
         self.segments[name], self.names[segment] = segment, name
+
+    def note_reuse(self, name: str, segment: str) -> None:
+        """Notes that a name comes to be this segment's, if it was another one's before."""
+        if self.segments.get(name, segment) != segment:
+            self.again = Reuse(name, self.segments[name], segment)
 
     def segment_of(self, name: str) -> str:
         """The segment of a name, which may be the model's own; nothing if it is not known."""
@@ -275,6 +292,8 @@ class Names:
         if not known and segment not in self.names and name not in ABSENT:
             self.learn(name, segment)
             return True
+        if segment not in self.names and not SEGMENT.fullmatch(name):
+            self.note_reuse(name, segment)  # which isn't learned yet
         return known == segment
 
     def agree(self, port: Sequence[str], words: Sequence[str]) -> bool:

@@ -59,6 +59,9 @@ def said_of(found: Difference) -> str:
         case "line" if ours.startswith(NEEDS_CHOICE):
             side = f"at {port}" if port else "past the choice"
             return f"the port is {side}, the model {where}, with starve to choose"
+        case "choice":
+            side = f"at {port}" if port else "past the choice"
+            return f"the port is {side}, the model {where}, whose record is missing"
         case "line":
             return f"the port is {f'at {port}' if port else 'in its call'}, the model {where}"
         case "call":
@@ -68,6 +71,8 @@ def said_of(found: Difference) -> str:
             return f"the port's call replied {port} after {point}, the model is {where}"
         case "words":
             return f"after {point} the port has {port}, the model {ours}"
+        case "reuse":
+            return f"{port} while {ours}"
         case "refused":
             return f"the model, at {point}, can't make this step: {ours}"
     verb = "" if port in ("won", "lost") else VERBS[found.kind]
@@ -92,7 +97,7 @@ class About:
 
     def facts(self) -> Iterator[str]:
         """What the actor saw last, what is at the place of the model's step, and the position."""
-        if self.found.record.kind == "reply":
+        if self.found.record.kind == "reply" or self.found.kind == "reuse":
             return
         last, made, state = self.last_step, self.found.made, self.found.state
         if self.found.kind == "line" and last and last.access == "read" and last.answer not in ("won", "lost"):

@@ -52,9 +52,14 @@ class Side:
             return self.take_reply()
         if self.found.kind == "words":
             return self.take_words()
+        if self.found.kind == "choice" and self.comparison.choose(self.found.record):
+            return "nothing: the choice at E10 follows from the record"
         for change in self.changes():
             if self.is_taken_by(change):
                 return self.go_on(change)
+        if self.found.kind == "reuse":
+            self.make_step()
+            return "nothing: the name is the new segment's from here on"
         return ""
 
     def changes(self) -> Iterator[Change]:
@@ -62,12 +67,12 @@ class Side:
         record = self.found.record
         if self.found.kind == "call":
             yield self.with_actor(IDLE, "the actor is in no call")
-        elif record.label and self.found.kind == "line":
+        elif record.label and self.found.kind in ("line", "choice"):
             yield from self.at_point(record.label)
-        elif self.found.kind in ("place", "access", "line") and not record.label:
+        elif self.found.kind in ("place", "access", "line", "choice") and not record.label:
             for label in sorted({point for point, _ in self.replay.steps if point != "Idle"}):
                 yield from self.at_point(label, 0)
-        if self.found.made:
+        if self.found.made and not self.found.made.answer.startswith("made "):
             yield from self.contents(self.found.made.place)
 
     def with_actor(self, record: Actor, said: str) -> Change:
@@ -127,7 +132,7 @@ class Side:
         replies = ended.output.decode("ascii").splitlines()
         if ended.status or not is_made(replies[1]):
             return False
-        if record.kind == "call" or record.label and self.found.kind == "line":
+        if record.kind == "call" or record.label and self.found.kind in ("line", "choice"):
             return True
         found = self.comparison.compare_made(record, Step.read(replies[2]), records.Actor.read(replies[3]))
         return not found or found.kind in ("reply", "words")

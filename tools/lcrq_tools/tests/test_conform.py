@@ -158,6 +158,9 @@ class Ends(unittest.TestCase):
     def test_choices_that_follow_are_counted(self) -> None:
         made = whole(*LOG)
         made.chosen = 1200
+        said = "no record has E10, so 1200 choices there followed from the next"
+        self.assertTrue(conform.summary(made).endswith(f"; nothing checked the decision to starve: {said}"))
+        made.has_choices = True
         self.assertTrue(conform.summary(made).endswith("; 1,200 of the choices at E10 follow from what comes after"))
 
     def test_an_actor_that_the_trace_lacks_is_a_fault(self) -> None:

@@ -4,9 +4,9 @@ import unittest
 from unittest import mock
 
 from lcrq_tools.port import port_compare
-from lcrq_tools.port.port_compare import Difference
+from lcrq_tools.port.port_compare import Comparison, Difference
 from lcrq_tools.records import Actor
-from lcrq_tools.tests.replay_stub import ENQUEUE, IDLE, LOG, Made, Told, actor, compared, with_record
+from lcrq_tools.tests.replay_stub import ENQUEUE, IDLE, LOG, Made, Told, actor, compared, records_of, with_record
 
 # Up to E10, where the log may leave out what the schedule chose, and what follows each choice.
 TO_E10: list[Made] = [("enq 1 7", "-; none; -; -", actor("E9")), ("go 1", "head 0.0; read; 0; -", actor("E10"))]
@@ -16,6 +16,15 @@ CHOSEN: dict[str, list[Made]] = {
     ]
     for choice, point, then in (("yes", "E11", "E12"), ("no", "E4", "E5"))
 }
+
+
+# Actor 1 makes a segment, which gets the name of the one that it has.
+REUSE: list[Made] = [
+    ENQUEUE[0],
+    ("go 1", "qtail; read; 0.0; -", actor("E12")),
+    ("go 1", "whole 1.0; wrote; made 1.0; -", actor("E13", new="1.0")),
+]
+REUSED = [LOG[0], "2 1 E1 qtail; read; p"]
 
 
 def difference(*texts: str, replay: Told | None = None) -> Difference:
@@ -54,10 +63,9 @@ class Agreement(unittest.TestCase):
         self.assertEqual(comparison.compared["replies"], 1)
 
     def test_a_segment_that_is_made_gets_its_name_which_another_one_may_have_had(self) -> None:
-        found: Made = ("go 1", "qtail; read; 0.0; -", actor("E12"))
-        made: Made = ("go 1", "whole 1.0; wrote; made 1.0; -", actor("E13"))
         for text in ("3 1 E12 whole p", "3 1 E12 made p"):
-            comparison = compared(LOG[0], "2 1 E1 qtail; read; p", text, replay=Told([ENQUEUE[0], found, made]))
+            comparison = compared(*REUSED, text, replay=Told(REUSE))
+            comparison.permits_reuse = True
             self.assertIsNone(comparison.difference())
             self.assertEqual(comparison.names.segments, {"p": "1.0"})
 
@@ -116,6 +124,44 @@ class Differences(unittest.TestCase):
         self.assertEqual((found.kind, found.step, found.point, found.model), ("reply", 7, "E8", "enqueued"))
 
 
+class Memory(unittest.TestCase):
+    """Names of segments that are used again."""
+
+    def test_a_segment_that_is_made_anew_while_somebody_has_it_differs(self) -> None:
+        told = Told(REUSE, {"show qhead": "is 0.0", "show qtail": "is 2.0", "show next 2.0": "is 0.0"})
+        found = difference(*REUSED, "3 1 E12 made p", replay=told)
+        self.assertEqual((found.kind, found.port, found.step, found.index), ("reuse", "p was made anew", 3, 2))
+        wanted = [
+            "actor 1 has it as crq, since step 2", "QHead has it, since the start",
+            "Next of 2.0 has it, since the start: it was 0.0",
+        ]
+        self.assertEqual(found.model.split(" and "), wanted)
+        self.assertEqual((told.made, [it for it in told.asked if it[:4] in ("back", "forw")]), (2, [
+            "back 1", "forward 1", "back 1",
+        ]))
+
+    def used(self, *shown: str) -> Comparison:
+        """A comparison in which actor 2 finds, by the name of 0.0, the segment 1.0, which has no name."""
+        steps = [
+            ("deq 2", "-; none; -; -", actor("Q1", "deq")), ("go 2", "qhead; read; 0.0; -", actor("Q14", "deq")),
+            ("go 2", "qhead; wrote; won; -", actor("Q1", "deq")), ("go 2", "qhead; read; 1.0; -", actor("Q2", "deq")),
+        ]
+        told = Told(steps, {"show qhead": "is 1.0"} | {it: "is 0.0" for it in shown})
+        return compared("1 2 deq", "2 2 Q1 p", "3 2 Q14 won", "4 2 Q1 p", replay=told)
+
+    def test_a_first_use_gives_a_name_that_nobody_needs_to_another_segment(self) -> None:
+        comparison = self.used()
+        self.assertIsNone(comparison.difference())
+        self.assertEqual(comparison.names.segments, {"p": "1.0"})
+
+    def test_a_first_use_of_a_name_that_somebody_needs_differs(self) -> None:
+        found = self.used("show qtail").difference()
+        assert found
+        self.assertEqual((found.kind, found.step), ("reuse", 4))
+        self.assertEqual(found.port, "p is used for 1.0, which has no name yet,")
+        self.assertEqual(found.model, "QTail has it, since the start: it was 0.0")
+
+
 class Choices(unittest.TestCase):
     """What the schedule chose at E10, where a log leaves it out."""
 
@@ -127,6 +173,17 @@ class Choices(unittest.TestCase):
                 self.assertIsNone(comparison.difference())
                 self.assertEqual((comparison.chosen, comparison.next, told.lines()[2:]), (1, 3, [line, "go 1"]))
                 self.assertEqual((told.made, told.states[0]), (4, told.listed[3][2]))
+
+    def test_a_log_with_a_choice_has_all_of_them(self) -> None:
+        texts = ["1 1 enq 7", "2 1 E9 0", "3 1 E11 open 0"]
+        rows: list[tuple[list[str], bool]] = [(["4 1 E10 no"], False), ([], True)]
+        for more, asks in rows:
+            told = Told([*TO_E10, *CHOSEN["starve 1 yes"]], forks=CHOSEN)
+            comparison = Comparison(told, records_of(*texts, *more), asks_choices=asks)
+            found = comparison.difference()
+            assert found
+            self.assertEqual((found.kind, found.port, found.index, found.step), ("choice", "E11", 2, 3))
+            self.assertEqual((comparison.has_choices, comparison.chosen), (bool(more), 0))
 
     def test_no_choice_agrees_with_any_other_record(self) -> None:
         told = Told([*TO_E10, *CHOSEN["starve 1 yes"]], forks=CHOSEN)

@@ -6,7 +6,7 @@ from pathlib import Path
 
 from lcrq_tools import model
 from lcrq_tools.port import port_log
-from lcrq_tools.port.port_log import Logs, Names, Record, Unreadable
+from lcrq_tools.port.port_log import Logs, Names, Record, Reuse, Unreadable
 
 LABELS = set(model.read(model.PAGE.read_text(encoding="utf-8"))[0])
 
@@ -151,6 +151,20 @@ class Meanings(unittest.TestCase):
         names.learn("p", "0.0")
         names.learn("p", "1.0")
         self.assertEqual((names.segment_of("p"), names.names), ("1.0", {"1.0": "p"}))
+        self.assertEqual(names.again, Reuse("p", "0.0", "1.0"))
+
+    def test_a_first_use_of_another_segments_name_is_noted_and_not_learned(self) -> None:
+        names = Names()
+        names.learn("p", "0.0")
+        self.assertFalse(names.agrees("p", "1.0"))
+        self.assertEqual((names.again, names.segment_of("p")), (Reuse("p", "0.0", "1.0"), "0.0"))
+
+    def test_the_models_own_names_are_no_names_that_are_used_again(self) -> None:
+        names = Names()
+        names.learn("1.0", "1.0")
+        self.assertFalse(names.agrees("1.0", "2.0"))
+        self.assertFalse(names.agrees("1.0", "0.0"))
+        self.assertIsNone(names.again)
 
     def test_nothing_is_no_name(self) -> None:
         names = Names()

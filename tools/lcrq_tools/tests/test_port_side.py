@@ -106,6 +106,24 @@ class Trials(unittest.TestCase):
         over = side(*LOG, "8 1 empty")
         self.assertEqual((over.take(), over.found.state), ("nothing: both calls are over", IDLE))
 
+    def test_a_name_that_is_used_again_is_the_new_segments(self) -> None:
+        steps = [ENQUEUE[0], ("go 1", "qtail; read; 0.0; -", actor("E12")),
+                 ("go 1", "whole 1.0; wrote; made 1.0; -", actor("E13", new="1.0"))]
+        made = side(LOG[0], "2 1 E1 qtail; read; p", "3 1 E12 made p", told=Told(steps))
+        self.assertEqual(made.found.kind, "reuse")
+        self.assertEqual(self.take(made), "nothing: the name is the new segment's from here on")
+        self.assertEqual((made.comparison.next, made.comparison.names.segments), (3, {"p": "1.0"}))
+
+    def test_a_choice_that_has_no_record_is_made(self) -> None:
+        begun = ("enq 1 7", "-; none; -; -", actor("E9"))
+        steps = [begun, ("go 1", "head 0.0; read; 0; -", actor("E10")), ("starve 1 yes", "-; none; -; -", IDLE)]
+        fork = [("starve 1 yes", "-; none; -; -", actor("E11")), ("go 1", "tail 0.0; wrote; open 0; -", actor("E12"))]
+        texts = ("1 1 enq 7", "2 1 E9 0", "3 1 E11 open 0", "4 1 E10 no")
+        made = side(*texts, told=Told(steps, forks={"starve 1 yes": fork}))
+        said = "nothing: the choice at E10 follows from the record"
+        self.assertEqual((made.found.kind, made.take()), ("choice", said))
+        self.assertEqual((made.comparison.next, made.replay.lines()[2:]), (3, ["starve 1 yes", "go 1"]))
+
     def test_a_word_is_that_of_the_port_after_the_step(self) -> None:
         made = side(*with_record(3, "4 1 E4 tail root; wrote; open 0; t 9"))
         told = made.replay
