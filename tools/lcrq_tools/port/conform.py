@@ -26,6 +26,7 @@ never ended.
 import argparse
 import collections
 import contextlib
+import functools
 import os
 import sys
 import tempfile
@@ -40,6 +41,7 @@ from lcrq_tools.port.port_compare import Comparison, Difference
 from lcrq_tools.port.port_log import Logs, Record, Unreadable, read_logs
 from lcrq_tools.port.port_replay import Replay
 from lcrq_tools.port.port_report import About
+from lcrq_tools.port.port_rings import guesses
 from lcrq_tools.port.port_side import Side
 from lcrq_tools.program import counted
 from lcrq_tools.start.starts import values_in
@@ -69,10 +71,10 @@ def parser() -> argparse.ArgumentParser:
     return command
 
 
-def options_of(given: argparse.Namespace, records: list[Record]) -> list[str]:
-    """The words after the program's name."""
+def options_of(given: argparse.Namespace, records: list[Record], ring: int | None = None) -> list[str]:
+    """The words after the program's name, with these rings in place of those of the command line."""
     actors = None if given.trace else max(record.actor for record in records)
-    return options.start_words(given.trace, actors, given.ring)
+    return options.start_words(given.trace, actors, ring or given.ring)
 
 
 class Progress:
@@ -251,7 +253,15 @@ def report_of(given: argparse.Namespace, comparison: Comparison, found: Differen
     about = About(comparison, found)
     yield from about.text()
     yield f"  before it {summary(comparison)}"
+    if not given.trace:
+        opened = functools.partial(opened_with, given, comparison.records)
+        yield from (f"  {line}" for line in guesses(comparison, found, opened))
     yield from (f"  {line}" for line in about.write(given.output)) if given.output else ()
+
+
+def opened_with(given: argparse.Namespace, records: list[Record], ring: int, folder: Path) -> Replay:
+    """A fresh world for these records, with rings of so many cells."""
+    return Replay(given.program, folder, options_of(given, records, ring))
 
 
 def leave_output() -> None:

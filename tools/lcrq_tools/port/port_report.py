@@ -4,6 +4,7 @@ start, a picture and a page.
 """
 
 import collections
+import re
 from collections.abc import Callable, Iterable, Iterator
 from pathlib import Path
 
@@ -25,6 +26,7 @@ TOUCHES = 8  # steps that are named, of those that touched a place
 Tool = Callable[[list[str]], int]  # the `main` of what draws a run, by the words of a command line
 VERBS = {"reply": "replied ", "place": "accessed ", "access": "", "answer": "found "}  # for each kind of difference
 ENDS = {"qhead": "QHead", "qtail": "QTail", "ahead": "ArrHead", "atail": "ArrTail"}
+SEGMENT = re.compile(r"(?<![\w.])[0-9]+\.[0-9]+(?![\w.])")  # where a text names one
 
 # ---- Words ---------------------------------------------------------------------------------------
 
@@ -83,7 +85,7 @@ class About:
     """A difference, with what the program and the steps before it say about it."""
 
     def __init__(self, comparison: Comparison, found: Difference):
-        self.replay, self.found = comparison.replay, found
+        self.replay, self.found, self.names = comparison.replay, found, comparison.names.names
         last = comparison.steps_of.get(found.record.actor, 0)
         self.last = last if last <= len(self.replay.steps) else 0
         self.last_point, self.last_step = self.replay.steps[self.last - 1] if self.last else ("", None)
@@ -114,7 +116,26 @@ class About:
         facts = list(dict.fromkeys(self.facts()))
         known = [fact for fact in facts if not any(other != fact and other.startswith(fact) for other in facts)]
         more = f": {', '.join(known)}" if known else ""
-        return f"step {self.found.step}: {said_of(self.found)}{more}"
+        return f"step {self.found.step}: {self.with_names(f'{said_of(self.found)}{more}')}"
+
+    def with_names(self, text: str) -> str:
+        """A text with the port's name of each segment beside the model's, where the text has it first."""
+        seen: set[str] = set()
+
+        def both(found: re.Match[str]) -> str:
+            segment = found[0]
+            name = segment if segment in seen else self.names.get(segment, segment)
+            seen.add(segment)
+            return segment if name == segment else f"{segment} ({name})"
+
+        return SEGMENT.sub(both, text)
+
+    def named(self, lines: list[str]) -> Iterator[str]:
+        """The segments that these lines name, as the model and as the port has them."""
+        segments = sorted(set(SEGMENT.findall(" ".join(lines))) & self.names.keys())
+        pairs = [f"{segment}, {self.names[segment]}" for segment in segments if self.names[segment] != segment]
+        if pairs:
+            yield f"  names  {'; '.join(pairs)}"
 
     def step_text(self, number: int) -> str:
         """A step by its number in the log, its control point, its line and what it did."""
@@ -156,8 +177,14 @@ class About:
 
     def text(self) -> Iterator[str]:
         """All lines that are said of the difference."""
-        found, record = self.found, self.found.record
+        lines = [*self.details()]
         yield self.headline()
+        yield from lines
+        yield from self.named(lines)
+
+    def details(self) -> Iterator[str]:
+        """What is said below the headline."""
+        found, record = self.found, self.found.record
         yield f"  port   {record.where}: `{record.text}`"
         if self.last:
             yield f"  before {self.step_text(self.last)}"

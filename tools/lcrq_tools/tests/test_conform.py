@@ -135,7 +135,7 @@ class Ends(unittest.TestCase):
         with with_program():
             given = parser().parse_args(["a.log", *words.split()])
         logs, output = Logs(records_of(*texts), [], []), io.StringIO()
-        with contextlib.redirect_stdout(output):
+        with contextlib.redirect_stdout(output), mock.patch.object(conform, "opened_with", lambda *_: Told([])):
             is_different = conform.compare_records(given, Told(), logs)
         return int(is_different), output.getvalue().splitlines()
 

@@ -98,7 +98,7 @@ class Texts(unittest.TestCase):
         code = about(*DREW).code_lines
         text = [*about(*DREW).text()]
         self.assertEqual(text[:3], [
-            "step 4: at E4 the port found open 5, the model open 0: Tail of 0.0 is open 0, position 0",
+            "step 4: at E4 the port found open 5, the model open 0: Tail of 0.0 (root) is open 0, position 0",
             "  port   a.log:4: `4 1 E4 tail root; wrote; open 5`",
             "  before step 3, `go 1` at E2: next 0.0; read; none",
         ])
@@ -108,11 +108,19 @@ class Texts(unittest.TestCase):
         self.assertIn("         E4: adds 1 to the tail of ring 0.0, 0 → 1: actor 1 has position 0", text)
         self.assertIn(f"         E4   {code['E4'][0]}", text)
         self.assertIn(f"  words  {actor('E4')}", text)
-        self.assertEqual(text[-3:], [
+        self.assertEqual(text[-4:], [
             "  next 0.0 was written by no step of this run",
             "    and touched since by step 3, `go 1` at E2: next 0.0; read; none",
             "  tail 0.0 was written by no step of this run",
+            "  names  0.0, root",
         ])
+
+    def test_a_segment_has_the_ports_name_beside_it_where_it_has_another(self) -> None:
+        made = about(*DREW)
+        made.names = {"0.0": "root", "1.0": "1.0", "2.0": "0x2"}
+        self.assertEqual(made.with_names("0.0, 1.0, 0.0, 2.0, 12.0"), "0.0 (root), 1.0, 0.0, 2.0 (0x2), 12.0")
+        self.assertEqual([*made.named(["next 2.0", "1.0", "0.0"])], ["  names  0.0, root; 2.0, 0x2"])
+        self.assertEqual([*made.named(["next 1.0"])], [])
 
     def test_what_was_touched_since_is_named(self) -> None:
         made = about(*LOG, "8 1 empty")
