@@ -11,6 +11,8 @@ kind of run that needs them says `skipped`.
 - Of each bug the tool names the step that is wrong. Which one that is, this script finds in the log
   alone. The files that the tool writes lead there, and with --go-on it names each later one too.
 - Logs with one answer, label, place, word or reply changed, or one record left out, differ there.
+- Logs in which a ring's memory is used again, in time and too early, that leave out records of E10, that
+  are cut, or of another ring: each with what is said, and the status.
 - The form without labels, logs in parts, names of threads, logs from a pipe, and logs of more than
   65,535 steps; and lines that can't be read.
 - What lesson 16 shows of its log and its continuations, and `tools/freeze.py --check` of each flaw.
@@ -29,7 +31,7 @@ from pathlib import Path
 from typing import Any
 
 from lcrq_tools import model, program
-from lcrq_tools.checks import changed_logs
+from lcrq_tools.checks import changed_logs, planted_logs
 from lcrq_tools.checks.port_runs import RINGS, Bench, Report, agrees, differs, steps_with
 from lcrq_tools.port.port_log import Record
 from lcrq_tools.program import EXAMPLES, TOP
@@ -197,6 +199,7 @@ OF_THE_PORT: dict[str, Callable[[Bench], Iterator[tuple[str, str]]]] = {
     "runs of the port": plain_runs,
     "runs of each bug": bug_runs,
     "changed logs": changed_logs.change_runs,
+    "planted logs": planted_logs.planted_runs,
     "other forms of logs": changed_logs.form_runs,
     "logs of more than 65,535 steps": changed_logs.long_runs,
 }

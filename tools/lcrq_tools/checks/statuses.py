@@ -196,6 +196,7 @@ def help_fault(built: str) -> str:
 # The tools whose examples are run, each with the status that comes of it: conform.py's log differs. The gate
 # runs the checks themselves; a measurement, an archive and a build take long.
 LEFT_OUT = ("bench", "check", "gate", "quick_build", "release")
+RUN_NOTHING = ("draft", "schema")
 SHOWN = {tool: 0 for tool in entry.TOOLS if tool not in LEFT_OUT} | {"conform": 1}
 
 
@@ -217,8 +218,8 @@ def example_fault(tool: str, built: str) -> str:
         script, *words = shlex.split(example)
         if script != f"{tool}.py":
             return f"it begins with {script}"
-        takes_program = [] if tool == "schema" or entry.TOOLS[tool].startswith("look.") else ["--program", built]
-        ended = program.run([*begin, *words, *takes_program], cwd=folder)
+        runs = tool not in RUN_NOTHING and not entry.TOOLS[tool].startswith("look.")
+        ended = program.run([*begin, *words, *(["--program", built] if runs else [])], cwd=folder)
         made = [word for option, word in zip(words, words[1:]) if option == "-o"]
         missing = [word for word in made if not (folder / word).exists()]
     if missing:
