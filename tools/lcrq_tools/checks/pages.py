@@ -7,8 +7,9 @@ It looks up these, too:
 
 - What docs/PROVED.md and the READMEs of the crates name in backticks is in the tree, and in the file that is
   named for it: functions, clauses, definitions, types and files.
-- The numbers on docs/PROVED.md and docs/ARCHITECTURE.md are those of `tools/definitions.py`. A fault names the
-  right number, and --store puts it there.
+- The numbers on docs/PROVED.md, docs/STATEMENT.md and docs/ARCHITECTURE.md are those of `tools/definitions.py`. A
+  fault names the right number, and --store puts it there. So it does with what docs/STATEMENT.md has from
+  `tools/definitions.py --statement`.
 - The scripts of tools/ that a page names are there, and the check or measurement that each runs. .ci/run has
   the README's test command. Each link leads to a file and a heading that are there.
 - Each line of the manual's tables is in the help, and each keyword in its table of replies and in the rows that
@@ -32,7 +33,7 @@ from lcrq_tools import manual, model
 from lcrq_tools.checks import command_rows, lessons, rehearsals
 from lcrq_tools.entry import TOOLS, tools_in
 from lcrq_tools.faults import Parser
-from lcrq_tools.look import contracts, definitions
+from lcrq_tools.look import contracts, reached, statement
 from lcrq_tools.markdown import LINK, QUOTED, blocks_of, headings_of
 from lcrq_tools.program import CRATES, EXAMPLES, TOP, line_of, tried
 
@@ -257,6 +258,7 @@ def tool_faults(pages: Iterable[Path]) -> Checks:
 
 PROVED = TOP / "docs" / "PROVED.md"
 ARCHITECTURE = TOP / "docs" / "ARCHITECTURE.md"
+STATEMENT = TOP / "docs" / "STATEMENT.md"
 # A guarantee: the words for the script; then definitions, lines and lines of comments.
 GUARANTEE = re.compile(r"\| \[.*\| (?:`([^`]*)`|no argument) \| ([\d,]+ \| [\d,]+ \| [\d,]+) \|")
 # A row of what one must read: its files; then lines and lines of comments; then minutes.
@@ -285,7 +287,7 @@ def guarantees() -> Iterator[Numbers]:
     rows = GUARANTEE.findall(text)
     yield "rows of guarantees with numbers", str(len(rows)), str(text.count("\n| ["))
     for words, numbers in rows:
-        count, _, *lines = definitions.reached_from(words.split() or definitions.HEADLINE).totals()
+        count, _, *lines = reached.reached_from(words.split() or reached.HEADLINE).totals()
         yield words or "the headline", numbers, in_row([count, *lines])
 
 
@@ -305,16 +307,21 @@ def only_in(paths: Iterable[Path], others: Iterable[Path]) -> str:
 
 def reading() -> Iterator[Numbers]:
     """The rows of what one must read to believe the headline, and what they add up to."""
-    text, reached = text_of(ARCHITECTURE), definitions.reached_from(definitions.HEADLINE)
+    text, found = text_of(STATEMENT), reached.reached_from(reached.HEADLINE)
     rows = [(files_of(cell), numbers, int(minutes)) for cell, numbers, minutes in READ.findall(text)]
     for number, (files, numbers, _) in enumerate(rows, 1):
-        counts = [reached.counts(*key) for key in reached.texts if key[0] in files]
+        counts = [found.counts(*key) for key in found.texts if key[0] in files]
         yield f"row {number} of the files", numbers, in_row(map(sum, zip(*counts)))
-    named, found = [path for files, _, _ in rows for path in files], {path for path, _ in reached.texts}
-    yield "files of all rows", only_in(named, found), only_in(found, named)
-    yield "the headline's total", said_in(TOTAL, text), in_row(reached.totals())
+    named, right = [path for files, _, _ in rows for path in files], {path for path, _ in found.texts}
+    yield "files of all rows", only_in(named, right), only_in(right, named)
+    yield "the headline's total", said_in(TOTAL, text), in_row(found.totals())
     yield "the headline's minutes", said_in(MINUTES, text), str(sum(minutes for *_, minutes in rows))
-    yield "files of undo_at", said_in(FILES, text), str(definitions.reached_from(FOLLOWED).totals()[1])
+
+
+def followed() -> Iterator[Numbers]:
+    """The number of files of the guarantee that is followed down."""
+    wanted = str(reached.reached_from(FOLLOWED).totals()[1])
+    yield "files of undo_at", said_in(FILES, text_of(ARCHITECTURE)), wanted
 
 
 def with_numbers(text: str, numbers: str, wanted: str) -> str:
@@ -333,6 +340,16 @@ def number_faults(rows: Iterable[tuple[Path, Numbers]], is_stored: bool) -> Chec
             yield f"{name_of(page)}: {name}", f"it has {numbers}, and it should have {wanted}"
             if is_stored:
                 page.write_text(with_numbers(text_of(page), numbers, wanted), encoding="utf-8")
+
+
+def part_faults(is_stored: bool) -> Checks:
+    """Each part of docs/STATEMENT.md that isn't what the tree says, which may be stored."""
+    for name in statement.parts():
+        there, wanted = statement.on_page(name, text_of(STATEMENT)), statement.marked(name)
+        if there != wanted:
+            yield f"{name_of(STATEMENT)}: {name}", "it isn't what tools/definitions.py --statement prints"
+            if is_stored and there:
+                STATEMENT.write_text(text_of(STATEMENT).replace(there, wanted), encoding="utf-8")
 
 
 # ---- Links ---------------------------------------------------------------------------------------
@@ -358,11 +375,13 @@ def all_checks(is_stored: bool) -> Checks:
     """The checks of all pages."""
     yield from block_checks()
     pages = sorted({page for pattern in ALL for page in TOP.glob(pattern)})
-    proved = [PROVED, *sorted(CRATES.glob("*/README.md"))]
+    proved = [PROVED, STATEMENT, *sorted(CRATES.glob("*/README.md"))]
     yield from faults_of(name_faults(proved), f"the names of {len(proved)} pages")
     current = [page for page in pages if page.name != "CHANGELOG.md"]  # which may name what was there
     yield from faults_of(tool_faults(current), f"the scripts of {len(current)} pages, and the gate")
-    numbers = [(PROVED, row) for row in guarantees()] + [(ARCHITECTURE, row) for row in reading()]
+    yield from faults_of(part_faults(is_stored), f"{len(statement.parts())} parts of {name_of(STATEMENT)}")
+    pages_rows = [(PROVED, guarantees), (STATEMENT, reading), (ARCHITECTURE, followed)]
+    numbers = [(page, row) for page, rows in pages_rows for row in rows()]
     yield from faults_of(number_faults(numbers, is_stored), f"{len(numbers)} numbers of definitions, files and lines")
     links = ((name_of(page), f"no {link}") for page in pages for link in dead_links(page))
     yield from faults_of(links, f"the links of {len(pages)} pages")
@@ -373,7 +392,7 @@ def all_checks(is_stored: bool) -> Checks:
 def main() -> int:
     """Prints the checks of all pages; returns the exit status."""
     parser = Parser(__doc__)
-    parser.add_argument("--store", action="store_true", help="put the right numbers of definitions, files and lines")
+    parser.add_argument("--store", action="store_true", help="put right what comes from tools/definitions.py")
     status = 0
     for name, fault in all_checks(parser.parse_args().store):
         print(line_of(name, fault))

@@ -99,6 +99,15 @@ def functions_of(path: Path) -> list[Function]:
     return found
 
 
+def body_of(path: Path, name: str) -> str:
+    """The first function of this name in a source file, from its first line to its closing brace."""
+    lines = lines_of(path)
+    begins = ((number, FUNCTION.match(line)) for number, line in enumerate(lines))
+    first = next(number for number, found in begins if found and found[2] == name)
+    indent = lines[first][: len(lines[first]) - len(lines[first].lstrip())]
+    return "\n".join(lines[first : lines.index(f"{indent}}}", first)])
+
+
 # ---- Definitions and types -----------------------------------------------------------------------
 
 

@@ -1,11 +1,12 @@
 """Lists the definitions and types that a contract reaches: what its reader has to believe.
 
-    python3 tools/definitions.py [--text] [FILE FUNCTION[.LABEL]..]..
+    python3 tools/definitions.py [--text | --chain] [FILE FUNCTION[.LABEL]..]..
+    python3 tools/definitions.py --statement
 
 FILE is a source file, named from `crates/`, and each FUNCTION one of its functions: with a LABEL its clause of this
 label (`Book::obey.answer`), else all that it ensures. What a function requires goes with each of its clauses. A type in
-place of a FUNCTION means what each of its values keeps, as `World.well_formed`. Without a FILE it is the clause that
-carries the headline over a list of commands, from which the record `Headline` is reached.
+place of a FUNCTION means what each of its values keeps, as `World.well_formed`. Without a FILE it is the clause by which
+a run of a script promises the headline, from which the record `Headline` is reached.
 
 The words of a clause are followed through `ghost use` into `specs/`, from there through the imports of each definition,
 and from types of the code into `src/`. The type of a field is followed only if something that is reached names the
@@ -16,260 +17,23 @@ Standard output gets a Markdown table from the contract down: a row a file, in t
 with the lines of what is listed that are neither blank nor a comment alone, and those of the comments above and inside
 it. The rows after the total are the kit's files with the names that are taken from them, operators left out; of a type
 also the fields that are named. What these names reach in turn is not listed. With `--text` standard output gets the
-definitions themselves, in this order. Only Python's standard library is used.
+definitions themselves, in this order.
+
+With `--chain` the table has only what lies between the clauses and the headline, a row a definition: what it says only
+that there is some of, and its facts on bytes, which say nothing where no contract knows the bytes. A FILE alone means
+what its `main` calls: `--chain crates/lcrqdb/src/main.rt`. With `--statement` standard output gets the parts of
+docs/STATEMENT.md that are written so. Only Python's standard library is used.
 """
 
-import collections
-import functools
-import re
 import signal
 from collections.abc import ItemsView, Iterable, Iterator, Sequence
 from pathlib import Path
-from typing import NamedTuple, TypeVar
 
-from lcrq_tools.faults import Fault, Parser
-from lcrq_tools.look.contracts import (
-    GHOST_FIELD, Clause, Function, blocks_of, code_of, crate_of, functions_of, imports_of, lines_of, parts_of,
-    without_ghosts,
-)
-from lcrq_tools.look.kit import fields_of, place_of, shown
-from lcrq_tools.look.lines import COMMENT, crate_names, sources_of
+from lcrq_tools.faults import Parser
+from lcrq_tools.look.chain import chain_of
+from lcrq_tools.look.reached import HEADLINE, Reached, grouped, reached_from
+from lcrq_tools.look.statement import marked, parts
 from lcrq_tools.program import CRATES, print_head, print_row
-
-# The clause that carries the headline, as on a command line: this is the one place that names it.
-HEADLINE = ["rd_marks/src/books/obeying.rt", "apply_all.headline"]
-WORD = re.compile(r"(?<![.\w])[A-Za-z_]\w*")
-TYPE_NAME = re.compile(r"\b[A-Z]\w*")
-NAMED_FIELD = re.compile(r"\.(\w+)|[{;]\s(\w+) = ")
-FROM_CRATE = re.compile(r"^use (\w+)::([^;]*);", re.MULTILINE)
-
-Key = TypeVar("Key")
-Value = TypeVar("Value")
-
-
-class Unknown(Fault):
-    """What is asked for is not there."""
-
-
-# ---- What a name means ---------------------------------------------------------------------------
-
-
-class Own(NamedTuple):
-    """A definition or a type of the crates."""
-
-    path: Path
-    name: str
-
-
-class OfKit(NamedTuple):
-    """A name of the kit, with the module that it is imported from."""
-
-    module: str
-    name: str
-
-
-def grouped(pairs: Iterable[tuple[Key, Value]]) -> dict[Key, list[Value]]:
-    """The second members of pairs as lists, by the first ones."""
-    found: dict[Key, list[Value]] = {}
-    for key, value in pairs:
-        found.setdefault(key, []).append(value)
-    return found
-
-
-@functools.cache
-def types() -> dict[str, list[Path]]:
-    """The source files that have a type of each name."""
-    paths = (path for crate in crate_names() for path in sources_of(CRATES / crate))
-    return grouped((name, path) for path in paths for name in blocks_of(path))
-
-
-@functools.cache
-def crates_of_names(path: Path) -> dict[str, list[str]]:
-    """The crates from which a source file imports each name."""
-    uses = FROM_CRATE.findall("\n".join(lines_of(path)))
-    return grouped((name, crate) for crate, names in uses for name in re.findall(r"\w+", names))
-
-
-def type_named(name: str, path: Path) -> Own | OfKit | None:
-    """The type of this name that a source file means: its own, its crate's, or an imported one."""
-    files, crates = types().get(name, []), crates_of_names(path).get(name, [])
-    own = [file for file in files if file == path]
-    of_crate = [file for file in files if crate_of(file) == crate_of(path)]
-    of_others = [file for file in files if crate_of(file) in crates]
-    for file in own + of_crate + of_others:
-        return Own(file, name)
-    of_kit = (OfKit(crate, name) for crate in crates if name[0].isupper() and is_of_kit(crate))
-    return next(of_kit, None)
-
-
-def is_of_kit(crate: str) -> bool:
-    """Whether the first word of an import names a crate of the kit."""
-    return crate not in ("crate", "self", "super") and not (CRATES / crate).is_dir()
-
-
-def declared(crate: str, names: Sequence[str]) -> Own | None:
-    """The type or the constant of the code that a module of declared names has."""
-    for end in range(len(names), 0, -1):
-        path = CRATES / crate / "src" / Path(*names[:end]).with_suffix(".rt")
-        if path.is_file():
-            return next((Own(path, name) for name in names[end:] if name in blocks_of(path)), None)
-    return None
-
-
-def imported(module: str, name: str | None) -> Own | OfKit | None:
-    """What an imported name stands for."""
-    root, crate, *names = module.split(".")
-    if root != "Rattle" or not (CRATES / crate).is_dir():
-        return OfKit(module, name or names[-1])
-    if names[1] == "declared":
-        return declared(crate, [*names[2:], name or ""])
-    path = CRATES / crate / "specs" / Path(*names[1:]).with_suffix(".antt")
-    return meant(name, path) if name and path.is_file() else None
-
-
-def meant(name: str, path: Path) -> Own | OfKit | None:
-    """The definition or type that a word means in a file, if it means one."""
-    if path.suffix == ".antt" and name in blocks_of(path):
-        return Own(path, name)
-    if name in imports_of(path):
-        return imported(*imports_of(path)[name])
-    return type_named(name, path) if path.suffix == ".rt" else None
-
-
-# ---- What is reached -----------------------------------------------------------------------------
-
-
-def functions_named(path: Path, name: str) -> list[Function]:
-    """The functions of a source file that a name means, as `obey` or `Book::obey`."""
-    owner, _, short = name.rpartition("::")
-    found = [function for function in functions_of(path) if function.name == short and owner in ("", function.owner)]
-    if not found:
-        raise Unknown(f"no function {name} in {path.relative_to(CRATES)}")
-    return found
-
-
-def kept_by(path: Path, name: str) -> Function:
-    """A type as a function that ensures what each value of the type keeps."""
-    text = blocks_of(path)[name]
-    head = next(line for line in text.splitlines() if not line.startswith(COMMENT[path.suffix]))
-    fields = [Clause("ensures", field[1], field[0].rstrip(",\n")) for field in GHOST_FIELD.finditer(text)]
-    return Function(None, name, True, head.rstrip("{ "), tuple(fields))
-
-
-def clauses_of(path: Path, name: str, label: str) -> list[tuple[Function, Clause]]:
-    """What the functions of this name require, and what they ensure, by this label if there is one; each clause with
-    its function. What a type keeps stands for what it ensures."""
-    functions = [kept_by(path, name)] if name in blocks_of(path) else functions_named(path, name)
-    found = [(function, clause) for function in functions for clause in function.clauses]
-    ensured = [clause for _, clause in found if clause.kind == "ensures"]
-    wanted = [clause for clause in ensured if label in ("", clause.label)]
-    if not ensured:
-        raise Unknown(f"{name} ensures nothing")
-    if not wanted:
-        labels = ", ".join(clause.label or "a clause without a label" for clause in ensured)
-        raise Unknown(f"no clause {label} of {name}, which ensures {labels}")
-    return [(function, clause) for function, clause in found if clause in wanted or clause.kind == "requires"]
-
-
-class Reached:
-    """What contracts reach, in the order in which it is reached, breadth first."""
-
-    def __init__(self) -> None:
-        self.clauses: dict[tuple[Path, str, Function], list[Clause]] = {}  # by files, names and functions
-        self.texts: dict[Own, str] = {}  # those of definitions and types
-        self.taken: set[OfKit] = set()
-        self.waiting: collections.deque[tuple[Path, str]] = collections.deque()  # texts whose words are to be followed
-        self.unread: list[tuple[Path, str, str]] = []  # fields that nothing has named so far: file, name and type
-        self.read: set[str] = set()  # the names of the others
-
-    def add_clauses(self, path: Path, asked: str) -> None:
-        """Adds the clauses of a function that are asked for."""
-        name, _, label = asked.partition(".")
-        for function, clause in clauses_of(path, name, label):
-            clauses = self.clauses.setdefault((path, name, function), [])
-            clauses += [clause] if clause not in clauses else []
-            self.waiting.append((path, clause.text.partition("{")[2]))
-
-    def add(self, path: Path, name: str) -> None:
-        """Adds a definition or a type of a file."""
-        self.texts[Own(path, name)] = text = without_ghosts(blocks_of(path)[name])
-        head, fields = parts_of(code_of(text, path.suffix))
-        self.waiting.append((path, head))
-        self.unread += [(path, *field) for field in fields]
-
-    def follow(self) -> None:
-        """Follows all words, those of a field once something names it."""
-        while self.waiting:
-            path, text = self.waiting.popleft()
-            for word in dict.fromkeys(WORD.findall(text)):
-                self.follow_word(path, word)
-            self.read |= {name or key for name, key in NAMED_FIELD.findall(text)}
-            self.waiting.extend((file, type_) for file, name, type_ in self.unread if name in self.read)
-            self.unread = [field for field in self.unread if field[1] not in self.read]
-
-    def follow_word(self, path: Path, word: str) -> None:
-        """Adds what a word means in a file, if it means anything that isn't there yet."""
-        found = meant(word, path)
-        if isinstance(found, OfKit):
-            self.taken.add(found)
-        elif found and found not in self.texts:
-            self.add(*found)
-
-    def counts(self, path: Path, name: str) -> tuple[int, int]:
-        """How many lines of code and of comments a definition or a type has."""
-        text = self.texts[Own(path, name)]
-        code = len(code_of(text, path.suffix).splitlines())
-        return code, sum(bool(line.strip()) for line in text.splitlines()) - code
-
-    def totals(self) -> tuple[int, int, int, int]:
-        """How many definitions and types there are, in how many files, with how many lines of code and of comments."""
-        code, comments = (sum(column) for column in zip((0, 0), *(self.counts(*own) for own in self.texts)))
-        return len(self.texts), len({path for path, _ in self.texts}), code, comments
-
-    def from_kit(self) -> Iterator[tuple[str, list[str]]]:
-        """The kit's files with the names that are taken from them, each with the name that it is given here, if it is
-        another one, and with those fields of a type that something names."""
-        files: dict[Path | str, dict[str, str]] = {}
-        for module, name in sorted(self.taken):
-            place = place_of(module, name)
-            names = files.setdefault(place.file, {})
-            names[place.name if place.name == name else f"{place.name} as {name}"] = ""
-            there, fields = fields_of(place)
-            if self.read.intersection(fields):
-                named = ", ".join(f".{field}" for field in fields if field in self.read)
-                files.setdefault(there.file, {})[there.name] = f" ({named})"
-        for file, names in files.items():
-            yield shown(file), [name + fields for name, fields in sorted(names.items())]
-
-
-def asked_for(words: Sequence[str]) -> list[tuple[str, list[str]]]:
-    """The files of a command line, each with the names after it."""
-    asked: list[tuple[str, list[str]]] = []
-    for word in words:
-        if word.endswith(".rt") or not asked:
-            asked.append((word.removeprefix("crates/"), []))
-        else:
-            asked[-1][1].append(word)
-    return asked
-
-
-def reached_from(words: Sequence[str]) -> Reached:
-    """What the clauses reach that a command line asks for."""
-    reached = Reached()
-    for file, names in asked_for(words):
-        path = CRATES / file
-        if not (path.is_file() and path.suffix == ".rt"):
-            raise Unknown(f"no source file {file} in crates/")
-        if not names:
-            raise Unknown(f"which function of {file}?")
-        for name in names:
-            reached.add_clauses(path, name)
-    for path, _, function in reached.clauses:
-        types = TYPE_NAME.findall(f"{function.signature} {function.owner}")
-        reached.waiting.append((path, " ".join(types)))
-    reached.follow()
-    return reached
-
 
 # ---- What is printed -----------------------------------------------------------------------------
 
@@ -317,15 +81,31 @@ def print_texts(reached: Reached) -> None:
         print(f"{file}: {', '.join(names)}")
 
 
+def print_chain(words: Sequence[str]) -> None:
+    """Prints what lies between these clauses and the headline."""
+    links = chain_of(words)
+    print_head("Clause or definition", "File", "There is only some", "Facts on bytes")
+    for own, exist, on_bytes in links:
+        some = "; ".join(map(" : ".join, exist))
+        print_row(own.name, own.path.relative_to(CRATES), some, ", ".join(on_bytes))
+
+
 def main() -> int:
     """Prints what the command line asks for; returns the exit status."""
     parser = Parser(__doc__, " ".join(HEADLINE))
-    parser.add_argument("--text", action="store_true", help="print the definitions themselves")
+    kinds = parser.add_mutually_exclusive_group()
+    kinds.add_argument("--text", action="store_true", help="print the definitions themselves")
+    kinds.add_argument("--chain", action="store_true", help="print what lies between clauses and the headline")
+    kinds.add_argument("--statement", action="store_true", help="print what docs/STATEMENT.md has of the tree")
     words = "a source file, from crates/, and functions of it, with or without a label; else the headline's"
     parser.add_argument("words", nargs="*", metavar="FILE FUNCTION[.LABEL]", help=words)
     given = parser.parse_args()
     asked: list[str] = given.words or HEADLINE
     signal.signal(signal.SIGPIPE, signal.SIG_DFL)  # who reads the output may stop
-    reached = reached_from(asked)
-    (print_texts if given.text else print_table)(reached)
+    if given.statement:
+        print("\n\n".join(map(marked, parts())))
+    elif given.chain:
+        print_chain(asked)
+    else:
+        (print_texts if given.text else print_table)(reached_from(asked))
     return 0

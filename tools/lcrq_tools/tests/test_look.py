@@ -8,8 +8,8 @@ from collections.abc import Callable
 from pathlib import Path
 from unittest import mock
 
-from lcrq_tools.look import clause_counts, contracts, definitions, kit, lines, promises
-from lcrq_tools.look.definitions import Unknown
+from lcrq_tools.look import chain, clause_counts, contracts, definitions, kit, lines, promises, reached, statement
+from lcrq_tools.look.reached import Unknown
 
 COUNTER = """\
 //! A counter that stays small.
@@ -103,13 +103,14 @@ class Tree(unittest.TestCase):
             path.parent.mkdir(parents=True, exist_ok=True)
             path.write_text(text, encoding="utf-8")
         crates = self.top / "crates"
-        places = [(it, "CRATES", crates) for it in (clause_counts, contracts, definitions, lines, promises)]
+        modules = (chain, clause_counts, contracts, definitions, lines, promises, reached, statement)
+        places = [(it, "CRATES", crates) for it in modules]
         for module, name, value in [*places, (lines, "TOP", self.top), (kit, "has_kit", lambda: False)]:
             patch = mock.patch.object(module, name, value)
             patch.start()
             self.addCleanup(patch.stop)
         forget: list[Callable[[], None]] = [
-            definitions.types.cache_clear, definitions.crates_of_names.cache_clear, promises.exports_of.cache_clear
+            reached.types.cache_clear, reached.crates_of_names.cache_clear, promises.exports_of.cache_clear
         ]
         for clear in forget:
             clear()
@@ -184,7 +185,7 @@ class Definitions(Tree):
 
     def reached(self, *words: str) -> dict[str, list[str]]:
         """What a command line reaches, by file."""
-        found = definitions.by_file(definitions.reached_from(list(words)).texts)
+        found = definitions.by_file(reached.reached_from(list(words)).texts)
         return {str(path): names for path, names in found}
 
     def test_words_are_followed_through_imports(self) -> None:
@@ -205,11 +206,11 @@ class Definitions(Tree):
                          ["IsSmall", "limit"])
 
     def test_lines_and_comments_are_counted(self) -> None:
-        reached = definitions.reached_from(["low/src/counter.rt", "add.ok"])
-        self.assertEqual(reached.counts(self.counts, "IsSmall"), (2, 2))
-        count, files, _, _ = reached.totals()
+        found = reached.reached_from(["low/src/counter.rt", "add.ok"])
+        self.assertEqual(found.counts(self.counts, "IsSmall"), (2, 2))
+        count, files, _, _ = found.totals()
         self.assertEqual((count, files), (3, 2))
-        self.assertEqual([*reached.from_kit()], [("Rattle.kit.Order", ["IsBelow"])])
+        self.assertEqual([*found.from_kit()], [("Rattle.kit.Order", ["IsBelow"])])
 
     def test_what_is_not_there_is_a_fault(self) -> None:
         for words, said in (
@@ -222,7 +223,7 @@ class Definitions(Tree):
                 self.reached(*words)
 
     def test_a_file_may_have_several_functions(self) -> None:
-        self.assertEqual(definitions.asked_for(["crates/a.rt", "f", "g.ok", "b.rt", "h"]),
+        self.assertEqual(reached.asked_for(["crates/a.rt", "f", "g.ok", "b.rt", "h"]),
                          [("a.rt", ["f", "g.ok"]), ("b.rt", ["h"])])
 
 
