@@ -1,5 +1,5 @@
-"""Follows a contract down to the headline, for `definitions.py --chain`: each definition on the way, with what it leaves
-open.
+"""Follows a contract down to the headline, for `definitions.py --chain`: each definition on the way, and what is left
+open there.
 
 `chain_of` gives a `Link` for each: first the clause, then the definitions between it and the record `Headline`, each
 before those that it names. Where one of these hands a fact on the way to another definition, as a run of a script does

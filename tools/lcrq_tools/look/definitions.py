@@ -5,8 +5,8 @@
 
 FILE is a source file, named from `crates/`, and each FUNCTION one of its functions: with a LABEL its clause of this
 label (`Book::obey.answer`), else all that it ensures. What a function requires goes with each of its clauses. A type in
-place of a FUNCTION means what each of its values keeps, as `World.well_formed`. Without a FILE it is the clause by which
-a run of a script promises the headline, from which the record `Headline` is reached.
+place of a FUNCTION means what each of its values keeps, as `World.well_formed`. Without a FILE it is the clause of a
+script's run, from which the record `Headline` is reached.
 
 The words of a clause are followed through `ghost use` into `specs/`, from there through the imports of each definition,
 and from types of the code into `src/`. The type of a field is followed only if something that is reached names the

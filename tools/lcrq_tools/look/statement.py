@@ -45,7 +45,8 @@ def shown_links(links: Sequence[Link]) -> list[Link]:
 
 
 def chain() -> Iterator[str]:
-    """The chain from `main` down in columns: names, files where they change, and what is left open."""
+    """The chain from `main` down in columns: names, files where they change, and what is left open. A fact that a
+    stream was not used is left out."""
     links = shown_links(chain_of([MAIN]))
     name_width = max(len(link.own.name) for link in links)
     files = [str(link.own.path.relative_to(CRATES)) for link in links]
@@ -53,7 +54,8 @@ def chain() -> Iterator[str]:
     yield "```text"
     for (own, exist, on_bytes), file, before in zip(links, files, ["", *files]):
         some = ", ".join(name for name, _ in exist)
-        opens = [f"some {some}"] * bool(exist) + [f"bytes: {', '.join(on_bytes)}"] * bool(on_bytes)
+        moved = ", ".join(name for name in on_bytes if not name.endswith("Unused"))
+        opens = [f"some {some}"] * bool(some) + [f"bytes: {moved}"] * bool(moved)
         shown = file if file != before else ""
         yield f"{own.name:{name_width}}  {shown:{file_width}}  {'; '.join(opens)}".rstrip()
     yield "```"

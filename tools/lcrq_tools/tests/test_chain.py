@@ -153,7 +153,7 @@ class Statement(Talking):
         text = [" ".join(line.split()) for line in statement.parts()["chain"]]
         self.assertEqual(text[1:5], [
             "main high/src/main.rt", "talk.talks low/src/talk.rt",
-            "Talks low/specs/Talk.antt some opened, book; bytes: IsUnused", "Ran some after, given'; bytes: Appends",
+            "Talks low/specs/Talk.antt some opened, book", "Ran some after, given'; bytes: Appends",
         ])
 
     def test_a_part_is_found_on_a_page(self) -> None:
