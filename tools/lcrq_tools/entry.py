@@ -24,6 +24,7 @@ from lcrq_tools.places import CRATES, PACKAGE, TOP
 TOOLS = {
     "picture": "draw.picture",
     "moment": "draw.moment",
+    "calls": "calls.calls",
     "page": "page.page",
     "prompt": "speak.prompt",
     "explain": "speak.explain",

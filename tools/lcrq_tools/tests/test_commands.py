@@ -85,7 +85,7 @@ class Faults(unittest.TestCase):
         for words, main in mains().items():
             with self.subTest(words), with_program():
                 status, output, errors = told(main, words, "--nowhere")
-                self.assertEqual((status, output), (2 if words == "conform.py" else 1, ""))
+                self.assertEqual((status, output), (2 if words in ("calls.py", "conform.py") else 1, ""))
                 self.assertRegex(errors, rf"^{words}: .*; --help shows what may be given\n\Z")
 
     def test_a_file_that_is_not_there(self) -> None:
