@@ -31,6 +31,7 @@ COMMANDS = (
     "python3 tools/check.py pictures",
     "python3 tools/check.py run_pages",
     "python3 tools/check.py ports",
+    "python3 tools/check.py calls",
     "python3 tools/check.py statuses",
     "python3 tools/check.py exercises",
     "python3 tools/check.py sentences",
