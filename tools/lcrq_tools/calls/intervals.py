@@ -161,9 +161,9 @@ def calls_of_logs(names: list[str]) -> Found:
     """The calls of logs, which are merged by their stamps."""
     if "-" in names:  # it was read to see what it is
         sys.stdin = io.TextIOWrapper(io.BytesIO(standard_input()), errors="replace")
-    records, actors = read_logs(names)
-    named = ", ".join(f"{name} is {number}" for number, name in enumerate(actors, 1))
-    calls = sorted(calls_of_records(records), key=lambda call: call.begin)
+    logs = read_logs(names)
+    named = ", ".join(f"{name} is {number}" for number, name in enumerate(logs.actors, 1))
+    calls = sorted(calls_of_records(logs.records), key=lambda call: call.begin)
     name = ", ".join("a log" if name == "-" else Path(name).name for name in names)
     return Found(tuple(calls), name, f"the actors of the logs: {named}" if named else "")
 

@@ -2,9 +2,9 @@
 
     python3 tools/check.py pictures [--store] [--program P]
 
-The gate runs it. A picture is right if it is stored byte for byte as `tools/picture.py` or `tools/moment.py`
-draws it and is shown on its page; if it is well-formed XML with a title and a description; if no two labels
-overlap and none is cut off; and if what it shows agrees with what is found by other means: that of a moment
+The gate runs it. A picture is right if it is stored byte for byte as `tools/picture.py`, `tools/moment.py` or
+`tools/calls.py` draws it, and is shown on its page; if it is well-formed XML with a title and a description;
+if no two labels overlap and none is cut off; and if what it shows agrees with what is found by other means: that of a moment
 by `moments.py`, which asks the program in another way; that of a run by `runs.py`, and by `dependence.py`,
 which knows dependence from docs/MODEL.md alone: two rows share a lane on which one of their dots is filled
 exactly if the two steps depend on each other. All of this is also checked of random runs with random options,
@@ -28,6 +28,7 @@ from types import ModuleType
 from typing import NamedTuple
 
 from lcrq_tools import dependence, program
+from lcrq_tools.calls import calls
 from lcrq_tools.checks import histories, moments, runs
 from lcrq_tools.checks.histories import Run
 from lcrq_tools.checks.random_scripts import RUN, drawing_words
@@ -39,7 +40,7 @@ from lcrq_tools.records import Step
 
 EXAMPLES = Path("examples")
 GUIDE = f"{EXAMPLES}/guide.md"
-PORT = "16-a-port-beside-the-model"
+PORT, OVERLAP = "16-a-port-beside-the-model", "17-calls-that-overlap"
 HISTORY = ".history"  # how the name of a file ends that has one
 
 
@@ -71,6 +72,9 @@ MOMENTS = [
     ("docs/MODEL.md", "docs/queue.svg", "moment.script", ""),
     (GUIDE, "guide-1-moment.svg", "guide-1.script", "--line 16"),
 ]
+
+# The calls, in the same way.
+CALLS = [(f"{EXAMPLES}/{OVERLAP}.md", f"{OVERLAP}-calls.svg", f"{OVERLAP}.script", "--fifo")]
 
 
 class Lesson(NamedTuple):
@@ -111,6 +115,7 @@ LESSONS = [
     Lesson("15-why-a-dequeue-looks-twice-1", "--trace TRACE", "--undo 1", "--line 2"),
     Lesson("15-why-a-dequeue-looks-twice-2", "--trace TRACE", "--lines 10 --undo 1", "--line 8"),
     Lesson(PORT, "--trace TRACE", "--undo 7", "--line 3"),
+    Lesson(OVERLAP, "", "--undo 4"),
 ]
 
 
@@ -155,6 +160,8 @@ def stored_fault(drawing: Drawing, given: argparse.Namespace) -> str:
         return "it is not stored as it is drawn: --store stores it"
     if f"]({os.path.relpath(path, page.parent)})" not in page.read_text(encoding="utf-8"):
         return f"{drawing.page} does not show it"
+    if tool is calls:
+        return runs.labels_fault(runs.Drawn(svg))
     if tool is moment:
         return moment_fault(svg, arguments)
     return runs.fault_of(svg, arguments, histories.viewers_of(arguments, histories.stored(arguments)))
@@ -165,6 +172,7 @@ def pictures() -> Iterator[Drawing]:
     yield from (Drawing(picture, *row) for row in PICTURES)
     yield from (lesson.drawing(picture, "", lesson.options) for lesson in LESSONS)
     yield from (Drawing(moment, *row) for row in MOMENTS)
+    yield from (Drawing(calls, *row) for row in CALLS)
     yield from (lesson.drawing(moment, "-moment", lesson.moment) for lesson in LESSONS if lesson.moment)
 
 
