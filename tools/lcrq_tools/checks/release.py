@@ -195,14 +195,13 @@ def lay_own(folder: Path, pages: list[Page], built: str) -> None:
         "long.script": [*own, *["len"] * 400],
         "a.script": own,
         "b.script": [*own, "len"],
-        "draft": ["# a draft", "", *(f"{line}  # done" for line in OWN)],
+        "s.draft": ["# lcrqdb --ring 2", "", *(f"{line}  # done" for line in OWN)],
         "my-port": ["#!/bin/sh", "cat t1.log"],
     }
     scripts |= {name: records.split("|") for name, records in LOGS.items()}
     files = {name: "".join(f"{line}\n" for line in lines).encode() for name, lines in scripts.items()}
     files["s.report"] = program.run([built, "run", "-", "--ring", "2"], files["s.script"]).output
     files["s.trace"] = program.run([built, "run", "-", "--trace"], b"enq 1 7\ngo 1\n").output.splitlines()[-1]
-    files |= {"plain.awk": item.text.encode() for page in pages for item in page.items if item.kind == "awk"}
     for name, data in files.items():
         (examples / name).write_bytes(data)
     (examples / "my-port").chmod(0o755)
