@@ -32,21 +32,21 @@ import sys
 import tempfile
 import time
 import traceback
-from collections.abc import Iterator
+from collections.abc import Callable, Iterator
 from pathlib import Path
 
 from lcrq_tools import options
 from lcrq_tools.faults import FAULTS, Fault, Parser, say, text_of
 from lcrq_tools.port.port_compare import Comparison, Difference
-from lcrq_tools.port.port_log import Logs, Record, Unreadable, read_logs
+from lcrq_tools.port.port_ledger import first_of
+from lcrq_tools.port.port_log import Record, Unreadable
 from lcrq_tools.port.port_replay import Replay
 from lcrq_tools.port.port_report import About
 from lcrq_tools.port.port_rings import guesses
 from lcrq_tools.port.port_side import Side
+from lcrq_tools.port.port_stream import HasChoices, OutOfOrder, Raw, Source
 from lcrq_tools.program import counted
-from lcrq_tools.start.starts import values_in
 
-SHOWN = 10  # values and calls that are listed
 MOST_AT_ONE = 4  # differences of one record whose side is taken
 SECONDS = 0.2  # between two lines of progress
 
@@ -71,92 +71,29 @@ def parser() -> argparse.ArgumentParser:
     return command
 
 
-def options_of(given: argparse.Namespace, records: list[Record], ring: int | None = None) -> list[str]:
-    """The words after the program's name, with these rings in place of those of the command line."""
-    actors = None if given.trace else max(record.actor for record in records)
-    return options.start_words(given.trace, actors, ring or given.ring)
+def options_of(given: argparse.Namespace, ring: int | None = None) -> list[str]:
+    """The words after the program's name, with these rings in place of those of the command line. Nobody knows
+    yet how many actors the logs have."""
+    return options.start_words(given.trace, None if given.trace else options.MOST_ACTORS, ring or given.ring)
 
 
 class Progress:
     """A line on a terminal that says how far the comparison is."""
 
-    def __init__(self, total: int):
-        self.total, self.said, self.is_shown = total, 0.0, sys.stderr.isatty()
+    def __init__(self, far: Callable[[], float] = lambda: 0.0):
+        self.far, self.said, self.is_shown = far, 0.0, sys.stderr.isatty()
 
     def __call__(self, number: int) -> None:
         now = time.monotonic()
         if self.is_shown and now - self.said > SECONDS:
-            self.said = now
-            print(f"\r{number:,} of {self.total:,} records", end="", file=sys.stderr, flush=True)
+            self.said, far = now, self.far()
+            part = f", {far:.0%} of the logs" if far else ""
+            print(f"\r{number:,} records{part}", end="", file=sys.stderr, flush=True)
 
     def end(self) -> None:
         """Takes the line away."""
         if self.is_shown:
             print("\r\033[K", end="", file=sys.stderr, flush=True)
-
-
-# ---- Values and calls ----------------------------------------------------------------------------
-
-
-class Ledger:
-    """What the calls of a log put and took. Where the log has no reply of a call, the model's counts."""
-
-    def __init__(self, comparison: Comparison):
-        self.comparison, records = comparison, comparison.records
-        self.enqueued: collections.Counter[str] = collections.Counter()
-        self.dequeued: collections.Counter[str] = collections.Counter()
-        # what may be there: at the start of a trace, and by calls of which no reply is known
-        self.possible = collections.Counter(map(str, values_in(comparison.start, ("enq", "aenq"))))
-        self.running: dict[int, tuple[str, int]] = {}  # of each actor the call that goes on, and its record
-        self.is_known = comparison.next == len(records) or any(record.reply for record in records)
-        self.last = {record.actor: record for record in records}
-        for number, record in enumerate(records):
-            self.see(number, record)
-        for actor, (call, began) in [*self.running.items()]:
-            self.end(call, comparison.ends.get(began, ""))
-            if began in comparison.ends:
-                del self.running[actor]
-
-    def see(self, number: int, record: Record) -> None:
-        """Counts a record."""
-        if record.kind == "call":
-            if record.actor in self.running:
-                call, began = self.running.pop(record.actor)
-                self.end(call, self.comparison.ends.get(began, ""))
-            self.running[record.actor] = record.call, number
-        elif record.reply and record.actor in self.running:
-            self.end(self.running.pop(record.actor)[0], " ".join(record.reply))
-
-    def end(self, call: str, reply: str) -> None:
-        """Counts the end of a call."""
-        if reply in ("enqueued", ""):
-            (self.enqueued if reply else self.possible).update(call.split(" ")[1:])
-        elif reply.startswith("value "):
-            self.dequeued.update([self.comparison.names.meant([reply.split(" ")[1]])])
-
-    def lines(self) -> Iterator[str]:
-        """What is to be said of the values and the calls: nothing where the log has no replies and was
-        not compared to its end."""
-        if not self.is_known:
-            return
-        may, taken = self.enqueued + self.possible, self.dequeued
-        yield from listed("put and never taken", [*self.enqueued - taken])
-        yield from listed("taken more often than put", [value for value in taken - may if may[value]])
-        yield from listed("taken and never put", [value for value in taken if not may[value]])
-        for actor, (call, _) in sorted(self.running.items()):
-            yield f"never ended: `{call}` of actor {actor}; its last record is `{self.last[actor].text}`"
-
-
-def listed(what: str, values: list[str]) -> Iterator[str]:
-    """A line with the first of these values, if there are any."""
-    if values:
-        yield f"{counted(len(values), 'value')} {what}: {first_of(values)}"
-
-
-def first_of(words: list[str]) -> str:
-    """The first of these words, and how many more there are."""
-    more = f" and {len(words) - SHOWN} more" if len(words) > SHOWN else ""
-    return ", ".join(words[:SHOWN]) + more
 
 
 # ---- The comparison ------------------------------------------------------------------------------
@@ -210,42 +147,79 @@ def first_difference(comparison: Comparison, progress: Progress) -> Difference |
     try:
         return comparison.difference(progress)
     except KeyboardInterrupt as fault:
-        far = f"{comparison.next:,} of {len(comparison.records):,} records agree so far"
-        raise Fault(f"interrupted: {far}") from fault
+        raise Fault(f"interrupted: {comparison.next:,} records agree so far") from fault
     finally:
         progress.end()
 
 
 def compare(given: argparse.Namespace, folder: Path) -> int:
-    """Compares the logs; returns the exit status."""
-    logs = read_logs(given.logs)
-    if logs.actors:
-        named = (f"{name} is {number}" for number, name in enumerate(logs.actors, 1))
-        say(f"the actors of the logs: {', '.join(named)}")
-    with contextlib.closing(Replay(given.program, folder, options_of(given, logs.records))) as replay:
-        most = max(record.actor for record in logs.records)
-        if most > len(replay.states):
-            raise Unreadable(f"the logs have an actor {most}, and the trace {len(replay.states)} actors")
-        is_different = compare_records(given, replay, logs)
+    """Compares the logs; returns the exit status. Where it comes out late that they have to be sorted, or that
+    they have choices, it begins again."""
+    asks = given.strict
+    with contextlib.closing(Source(given.logs)) as source:
+        while True:
+            try:
+                return compare_over(given, folder, source, asks)
+            except (OutOfOrder, HasChoices) as fault:
+                asks = asks or isinstance(fault, HasChoices)
+                source.again(fault)
+
+
+def compare_over(given: argparse.Namespace, folder: Path, source: Source, asks: bool) -> int:
+    """Compares the records of logs over a world; returns the exit status."""
+    source.put(source.some(1))
+    if not source.put_back:
+        raise Unreadable("; ".join([f"{' '.join(given.logs)}: no record", *source.cuts]))
+    with contextlib.closing(Replay(given.program, folder, options_of(given))) as replay:
+        source.actors.limit = len(replay.states)
+        comparison = Comparison(replay, source, asks_choices=asks, permits_reuse=given.reuse)
+        is_different = compare_records(given, comparison, Progress(source.far))
+    if source.cuts:
+        print(f"the log is cut: {first_of(source.cuts)}")
     sys.stdout.flush()
-    return 1 if is_different or logs.cuts and not given.cut else 0
+    return 1 if is_different or source.cuts and not given.cut else 0
 
 
-def compare_records(given: argparse.Namespace, replay: Replay, logs: Logs) -> bool:
+def compare_records(given: argparse.Namespace, comparison: Comparison, progress: Progress) -> bool:
     """Compares the records, and prints what comes of it; returns whether they differ."""
-    comparison = Comparison(replay, logs.records, asks_choices=given.strict, permits_reuse=given.reuse)
-    progress = Progress(len(logs.records))
     found = first_difference(comparison, progress)
+    if found:
+        comparison.source.check_rest(has_choices=comparison.asks_choices)
+    named = say_names(comparison, [])
     for line in report_of(given, comparison, found) if found else [f"agrees: {summary(comparison)}"]:
         print(line, flush=True)
     if found and given.go_on:
         differences, stopped = go_on(comparison, found, progress)
         progress.end()
         print("\n".join(filter(None, [*grouped(differences), stopped, summary(comparison)])))
-    sys.stdout.writelines(f"{line}\n" for line in Ledger(comparison).lines())
-    if logs.cuts:
-        print(f"the log is cut: {first_of(logs.cuts)}")
+    comparison.finish()
+    sys.stdout.writelines(f"{line}\n" for line in ends(comparison))
+    say_names(comparison, named)
     return bool(found)
+
+
+def say_names(comparison: Comparison, known: list[str]) -> list[str]:
+    """Says which actors the names of the logs are, if that is not what is known; returns it."""
+    named = comparison.source.actors.named()
+    if named != known:
+        say(f"the actors of the logs: {', '.join(named)}")
+    return named
+
+
+def ends(comparison: Comparison) -> Iterator[str]:
+    """What is to be said of the values and the calls: nothing where the log has no replies and was not compared
+    to its end."""
+    ledger = comparison.ledger
+    if not comparison.is_over and not ledger.has_replies:
+        return
+    yield from ledger.lines()
+    for actor, call in sorted(ledger.running.items()):
+        yield f"never ended: `{call}` of actor {actor}; its last record is `{text_in(comparison.last[actor])}`"
+
+
+def text_in(record: Record | Raw) -> str:
+    """The text of a record."""
+    return record.text if isinstance(record, Record) else record[2].decode("utf-8", "replace")
 
 
 def report_of(given: argparse.Namespace, comparison: Comparison, found: Difference) -> Iterator[str]:
@@ -254,14 +228,13 @@ def report_of(given: argparse.Namespace, comparison: Comparison, found: Differen
     yield from about.text()
     yield f"  before it {summary(comparison)}"
     if not given.trace:
-        opened = functools.partial(opened_with, given, comparison.records)
-        yield from (f"  {line}" for line in guesses(comparison, found, opened))
+        yield from (f"  {line}" for line in guesses(comparison, found, functools.partial(opened_with, given)))
     yield from (f"  {line}" for line in about.write(given.output)) if given.output else ()
 
 
-def opened_with(given: argparse.Namespace, records: list[Record], ring: int, folder: Path) -> Replay:
-    """A fresh world for these records, with rings of so many cells."""
-    return Replay(given.program, folder, options_of(given, records, ring))
+def opened_with(given: argparse.Namespace, ring: int, folder: Path) -> Replay:
+    """A fresh world with rings of so many cells."""
+    return Replay(given.program, folder, options_of(given, ring))
 
 
 def leave_output() -> None:

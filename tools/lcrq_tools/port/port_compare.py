@@ -3,16 +3,20 @@ differs.
 """
 
 import itertools
-from collections.abc import Callable, Sequence
+from collections.abc import Callable, Iterable, Iterator, Sequence
 from dataclasses import dataclass, replace
 
+from lcrq_tools.options import MOST_ACTORS
 from lcrq_tools.port import port_reuse
+from lcrq_tools.port.port_ahead import Ahead, reply_in
+from lcrq_tools.port.port_ledger import Ledger
 from lcrq_tools.port.port_log import CHOICES, Names, Record, Reuse
 from lcrq_tools.port.port_replay import Replay
-from lcrq_tools.records import NOTHING, Actor, Event, Refusal, Step, is_made
+from lcrq_tools.port.port_stream import Actors, HasChoices, Raw, Source
+from lcrq_tools.records import CALLS, NOTHING, Actor, Event, Refusal, Step, is_made
+from lcrq_tools.start.starts import values_in
 
 RECORDS = 1000  # that are compared at a time
-FREEZE_AT = 60_000  # live steps, of the 65,535 that there may be
 NEEDS_CHOICE = "refused 4 "
 
 
@@ -35,41 +39,135 @@ class Difference:
         return self.record.label or self.point
 
 
+class Listed:
+    """Records that are all known."""
+
+    def __init__(self, records: list[Record]):
+        self.all, self.at, self.actors = records, 0, Actors()
+        self.has_choices = any(record.choice for record in records)
+
+    def take(self, most: int) -> list[Record]:
+        """The next records."""
+        self.at += most
+        return self.all[self.at - most : self.at]
+
+    def back(self, count: int) -> None:
+        """Goes back by so many of those that were taken last."""
+        self.at = min(self.at, len(self.all)) - count
+
+    def early_records(self, most: int) -> list[Record]:
+        """The first records."""
+        return self.all[:most]
+
+    def check_rest(self, *, has_choices: bool) -> None:
+        """Nothing is to be checked: they were."""
+
+
 class Comparison:
     """The records of a log beside a run of the program."""
 
     def __init__(
-        self, replay: Replay, records: list[Record], *, asks_choices: bool = False, permits_reuse: bool = False
+        self, replay: Replay, source: Source | Listed, *, asks_choices: bool = False, permits_reuse: bool = False
     ):
-        self.replay, self.records, self.permits_reuse = replay, records, permits_reuse
-        self.has_choices = any(record.choice for record in records)
+        self.replay, self.source, self.permits_reuse = replay, source, permits_reuse
+        self.has_choices = isinstance(source, Listed) and source.has_choices  # in the records that are known
         self.asks_choices = asks_choices or self.has_choices  # so one that is missing is a difference
+        self.ahead = Ahead(self, source) if isinstance(source, Source) else None
         self.names = Names()
         self.sent = replay.count()  # how many steps the program has made, of which the last are not compared yet
-        self.start = replay.start()["start"]  # the parts with which it began
-        self.next = 0  # the next record
-        self.replied: dict[int, str] = {}  # what the model replied to the last call of an actor
-        self.steps_of: dict[int, int] = {}  # the last step of each actor
-        self.states_before: dict[int, Actor] = {}  # each actor before that step
+        start = replay.start()["start"]  # the parts with which it began
+        self.made = [*map(len, start["segments"]), *[0] * MOST_ACTORS]  # how many segments each actor has made
+        self.ledger = Ledger(map(str, values_in(start, ("enq", "aenq"))))
+        self.next, self.is_over = 0, False  # the next record, and whether there is none
+        self.states_before: dict[int, Actor] = {}  # each actor before its last step
+        self.last: dict[int, Record | Raw] = {}  # the last record of each actor
         self.compared = dict.fromkeys(("labels", "places", "answers", "replies", "words"), 0)
         self.accesses, self.chosen = 0, 0  # the model's, and choices that the log left out
-        self.ends: dict[int, str] = {}  # for a record that began a call, what the call replied
-        self.calls: dict[int, int] = {}  # for an actor, the record that began its call
 
     def difference(self, progress: Callable[[int], None] = lambda _: None) -> Difference | None:
         """Goes on to the first record that differs, or to the end."""
-        while self.next < len(self.records):
+        while not self.is_over:
             progress(self.next)
-            if self.replay.live() > FREEZE_AT:
-                self.replay.open_start(self.replay.start())
-            found = self.compare(self.records[self.next : self.next + RECORDS])
-            if found and found.model.startswith(NEEDS_CHOICE):
-                if self.asks_choices:
-                    return replace(found, kind="choice")
-                found = None if self.choose(found.record) else found
-            if found:
+            if self.replay.room() <= 0:
+                self.freeze()
+            if self.ahead and not self.ahead.run(progress):
+                self.is_over = True
+            elif found := self.compare_some(1 if self.ahead else RECORDS):
                 return found
         return None
+
+    def compare_some(self, most: int) -> Difference | None:
+        """Compares the next records, one at a time where most are compared ahead."""
+        records, before = self.source.take(most), self.next
+        self.is_over = not records
+        found = self.compare(records)
+        if found and found.model.startswith(NEEDS_CHOICE):
+            if self.asks_choices:
+                found = replace(found, kind="choice")
+            elif self.choose(found.record):
+                found = None
+        self.source.back(len(records) - (self.next - before))
+        return found
+
+    def freeze(self) -> None:
+        """Goes on over the world as a start."""
+        self.replay.open_start(self.replay.start())
+
+    def pass_over(self) -> None:
+        """Passes over the next record, which was compared."""
+        for record in self.source.take(1):
+            self.note_record(record)
+
+    def note_record(self, record: Record) -> None:
+        """Notes that a record is compared, before its step is kept."""
+        self.next += 1
+        self.last[record.actor] = record
+        if record.choice:
+            self.see_choice()
+        if record.kind == "call":
+            self.ledger.begin(record.actor, record.call, reply_in(self.replay.steps.last_line(record.actor)))
+        elif record.reply:
+            self.ledger.reply(record.actor, self.names.meant(record.reply))
+
+    def see_choice(self) -> None:
+        """Notes that the log has a choice, so that it has all of them."""
+        self.has_choices = True
+        if self.chosen and not self.asks_choices:
+            raise HasChoices("the log has a record of E10, and left one out before")
+        self.asks_choices = True
+
+    def count(self, records: int, counts: Sequence[int], words: int) -> None:
+        """Counts records that agree, and what was compared of them."""
+        self.next += records
+        for kind, count in zip(self.compared, (*counts[:4], words)):
+            self.compared[kind] += count
+        self.accesses += counts[4]
+        if counts[5]:
+            self.see_choice()
+
+    def learn_names(self, names: Iterable[bytes], segment: str) -> None:
+        """Learns the names of a segment that was made."""
+        for name in names:
+            self.names.learn(name.decode(), segment)
+        self.names.again = None
+
+    def finish(self) -> None:
+        """Reads the log to its end, for the calls in it, and counts those that go on."""
+        self.asks_choices = True
+        ended = {actor: reply_in(self.replay.steps.last_line(actor)) for actor in self.ledger.running}
+        rows: Iterator[tuple[int, Record | Raw, str]] = self.ahead.rest() if self.ahead else self.listed_rest()
+        for actor, record, said in rows:
+            self.last[actor], reply = record, ended.pop(actor, "") if said else ""
+            if said.split(" ")[0] in CALLS:
+                self.ledger.begin(actor, said, reply)
+            elif said:
+                self.ledger.reply(actor, said)
+        self.ledger.close(ended)
+
+    def listed_rest(self) -> Iterator[tuple[int, Record | Raw, str]]:
+        """The records that are left, as those of a log: of each the actor, and the call or the reply."""
+        while records := self.source.take(RECORDS):
+            yield from ((record.actor, record, record.call or " ".join(record.reply)) for record in records)
 
     def compare(self, records: list[Record]) -> Difference | None:
         """Compares these records; at the first that differs, the model is as before it."""
@@ -89,29 +187,27 @@ class Comparison:
     def compare_one(self, record: Record, replies: list[str]) -> Difference | None:
         """Compares a record with what was replied, and notes its step where they agree."""
         if record.kind == "reply":
-            found = self.compare_reply(record)
-        elif record.kind == "call":
-            found = self.compare_call(record, replies)
-        else:
-            found = self.compare_step(record, replies)
-        self.next += found is None
-        return found
+            return self.compare_reply(record)
+        if record.kind == "call":
+            return self.compare_call(record, replies)
+        return self.compare_step(record, replies)
 
     def differ(self, record: Record, kind: str, port: str, model: str, made: Step | None = None) -> Difference:
         """A difference at this record. A reply belongs to its actor's last step."""
         state, step = self.replay.states[record.actor - 1], self.replay.count() + 1
         point = state.point
         if record.kind == "reply":
-            step = self.steps_of.get(record.actor, 0)
+            step = self.replay.steps.last_of(record.actor)
             point = self.replay.steps[step - 1][0] if step else point
         return Difference(self.next, record, step, kind, port, model, point, made, state)
 
     def compare_reply(self, record: Record) -> Difference | None:
         """Compares what a call replied, in a record of its own."""
         is_over = self.replay.states[record.actor - 1].is_idle()
-        model = self.replied.get(record.actor, "") if is_over else ""
+        model = reply_in(self.replay.steps.last_line(record.actor)) if is_over else ""
         if not model or not self.names.agree(record.reply, model.split(" ")):
             return self.differ(record, "reply", " ".join(record.reply), model)
+        self.note_record(record)
         self.compared["replies"] += 1
         return None
 
@@ -119,10 +215,8 @@ class Comparison:
         """Compares the beginning of a call."""
         if not is_made(replies[0]):
             return self.differ(record, "call", record.call, replies[0])
+        self.note_record(record)
         self.keep_without_place(record.line(), Actor.read(replies[1]))
-        self.replied.pop(record.actor, None)
-        self.calls[record.actor] = self.next
-        self.steps_of[record.actor] = self.replay.count()
         return None
 
     def compare_step(self, record: Record, replies: list[str]) -> Difference | None:
@@ -197,16 +291,14 @@ class Comparison:
 
     def note(self, record: Record, made: Step, state: Actor) -> None:
         """Notes a step on which port and model agree."""
+        self.note_record(record)
         self.states_before[record.actor] = self.replay.states[record.actor - 1]
         self.replay.keep(made, state)
-        self.steps_of[record.actor] = self.replay.count()
+        self.made[record.actor] += made.answer.startswith("made ")
         self.accesses += bool(made.place)
         for kind, said in zip(self.compared, (record.label, record.place, record.answer, record.reply)):
             self.compared[kind] += bool(said)
         self.compared["words"] += 0 if made.reply else len(record.words) // 2
-        if made.reply:
-            self.replied[record.actor] = made.reply
-            self.ends[self.calls.get(record.actor, -1)] = made.reply
 
     def choose(self, record: Record) -> bool:
         """Makes the choice at E10 that a log leaves out, such that its next record agrees."""

@@ -5,6 +5,8 @@ A record is a line `STAMP ACTOR WHAT`: a call, a step with its label or its plac
 Segments may have any names; `Names` learns which segment of the model each of them is.
 """
 
+import contextlib
+import functools
 import io
 import itertools
 import re
@@ -88,6 +90,12 @@ class Reuse:
 
 
 # ---- Records -------------------------------------------------------------------------------------
+
+
+@functools.cache
+def label_names() -> set[str]:
+    """The labels of the pseudo-code."""
+    return set(model.read(model.PAGE.read_text(encoding="utf-8"))[0])
 
 
 def is_place(words: list[str]) -> bool:
@@ -212,14 +220,21 @@ def lines_of(name: str, cuts: list[str]) -> Iterator[tuple[str, str]]:
             yield f"{where}:{number}", text
 
 
+@contextlib.contextmanager
+def shown(where: str, text: str) -> Iterator[None]:
+    """Says of what can't be read where it is, and shows it."""
+    try:
+        yield
+    except Unreadable as fault:
+        more = "..." if len(text) > SHOWN_LETTERS else ""
+        raise Unreadable(f"{where}: `{text[:SHOWN_LETTERS]}{more}`: {fault}") from fault
+
+
 def records_of(name: str, labels: set[str], cuts: list[str]) -> Iterator[Record]:
     """The records of a log, in the order of the file. Adds where it is cut."""
     for where, text in lines_of(name, cuts):
-        try:
+        with shown(where, text):
             yield record_of(where, text, labels)
-        except Unreadable as fault:
-            more = "..." if len(text) > SHOWN_LETTERS else ""
-            raise Unreadable(f"{where}: `{text[:SHOWN_LETTERS]}{more}`: {fault}") from fault
 
 
 def check_order(records: list[Record]) -> None:
@@ -248,8 +263,8 @@ def read_logs(names: list[str]) -> Logs:
     """What all logs have."""
     if names.count("-") > 1:
         raise Unreadable("standard input can be read once, and - is given twice")
-    labels, cuts = set(model.read(model.PAGE.read_text(encoding="utf-8"))[0]), list[str]()
-    records = [record for name in names for record in records_of(name, labels, cuts)]
+    cuts = list[str]()
+    records = [record for name in names for record in records_of(name, label_names(), cuts)]
     if not records:
         raise Unreadable("; ".join([f"{' '.join(names)}: no record", *cuts]))
     records.sort(key=lambda record: record.stamp)

@@ -4,6 +4,7 @@ start, a picture and a page.
 """
 
 import collections
+import json
 import re
 from collections.abc import Callable, Iterable, Iterator
 from pathlib import Path
@@ -13,6 +14,7 @@ from lcrq_tools.draw import picture
 from lcrq_tools.faults import FAULTS, text_of
 from lcrq_tools.page import page
 from lcrq_tools.port.port_compare import NEEDS_CHOICE, Comparison, Difference
+from lcrq_tools.port.port_replay import trimmed
 from lcrq_tools.program import script_of
 from lcrq_tools.records import Actor, Cell, Place, Step, content_of
 from lcrq_tools.speak.sentences import sentence
@@ -86,8 +88,8 @@ class About:
 
     def __init__(self, comparison: Comparison, found: Difference):
         self.replay, self.found, self.names = comparison.replay, found, comparison.names.names
-        last = comparison.steps_of.get(found.record.actor, 0)
-        self.last = last if last <= len(self.replay.steps) else 0
+        self.last = self.replay.steps.last_of(found.record.actor)
+        self.actors = max([found.record.actor, *comparison.last])  # the highest of those that the log has so far
         self.last_point, self.last_step = self.replay.steps[self.last - 1] if self.last else ("", None)
         page = model.PAGE.read_text(encoding="utf-8")
         self.code_lines = {label: text for column in model.lines_of(page).values() for label, text in column.items()}
@@ -168,9 +170,7 @@ class About:
         yield f"{place} was written by {self.step_text(writer) if writer else 'no step of this run'}"
         if writer:
             yield from (f"  {words}" for words in self.meaning(writer, self.replay.steps[writer - 1][1]))
-        steps = self.replay.steps
-        later = range((writer or self.replay.before) + 1, len(steps) + 1)
-        since = [number for number in later if steps[number - 1][1].place.overlaps(place)]
+        since = self.replay.steps.touching(place, (writer or self.replay.before) + 1)
         if since:
             more = f"{len(since) - TOUCHES} more, then " if len(since) > TOUCHES else ""
             yield f"  and touched since by {more}" + "; ".join(map(self.step_text, since[-TOUCHES:]))
@@ -211,18 +211,19 @@ class About:
         self.replay.ask([f"back {made}"])
         start = self.replay.start()
         self.replay.ask([f"forward {made}"])
-        return start
+        return trimmed(start, self.actors) if self.replay.is_fresh else start
 
     def options(self, folder: Path) -> list[str]:
         """The options of the tools for the script, whose start is written beside it where it is one of
         the tool's own."""
         words = self.replay.options
         if words[0] == "run":
-            return words[2:]
+            return ["--actors", str(self.actors), *words[4:]]
         start = words[-1]
         if self.replay.before:
-            (folder / "from.trace").write_bytes(Path(start).read_bytes())
+            trace: Trace = json.loads(Path(start).read_text(encoding="ascii"))
             start = str(folder / "from.trace")
+            Path(start).write_text(starts.text_of(trimmed(trace, self.actors) if self.replay.is_fresh else trace))
         return ["--trace", start]
 
     def write(self, folder: Path) -> Iterator[str]:
@@ -248,7 +249,7 @@ class About:
     def chosen_rows(self, count: int) -> list[str]:
         """The options for the last steps at the places in question and of the actor."""
         actor, places = self.found.record.actor, self.places()
-        steps = enumerate((step for _, step in self.replay.steps[self.replay.before :]), self.replay.first + 1)
+        steps = enumerate((step for _, step in self.replay.steps.since_start()), self.replay.first + 1)
         chosen = (
             number for number, step in steps if step.event.actor == actor or any(map(step.place.overlaps, places))
         )

@@ -8,10 +8,9 @@ be used again. What is at a place is asked of the program, which stands before t
 
 from collections.abc import Callable, Iterator
 
-from lcrq_tools.port.port_replay import Replay
+from lcrq_tools.port.port_replay import SET_AT, Replay
 from lcrq_tools.records import Actor, Place, Step, content_of
 
-SET_AT = {"crq": ("E1", "Q1"), "new": ("E12",), "next": ("E2", "Q13")}  # the words, each with the lines that set it
 ENDS = {"qhead": "QHead", "qtail": "QTail"}
 
 
@@ -30,7 +29,7 @@ def has(state: Actor, word: str) -> bool:
 def since(replay: Replay, is_it: Callable[[str, Step], bool]) -> str:
     """Since which step it is so: the last one that is such."""
     steps = replay.steps
-    number = next((number for number in range(len(steps), 0, -1) if is_it(*steps[number - 1])), 0)
+    number = next((number for number in steps.numbers() if is_it(*steps[number - 1])), 0)
     return f"since step {number}" if number else "since the start"
 
 

@@ -70,7 +70,7 @@ class Side:
         elif record.label and self.found.kind in ("line", "choice"):
             yield from self.at_point(record.label)
         elif self.found.kind in ("place", "access", "line", "choice") and not record.label:
-            for label in sorted({point for point, _ in self.replay.steps if point != "Idle"}):
+            for label in sorted(self.replay.steps.all_points() - {"Idle"}):
                 yield from self.at_point(label, 0)
         if self.found.made and not self.found.made.answer.startswith("made "):
             yield from self.contents(self.found.made.place)
@@ -151,7 +151,7 @@ class Side:
         """Makes the step of the record, as the model makes it."""
         _, made, state = self.replay.ask(self.found.record.asked(self.replay.live() + 1))
         self.comparison.note(self.found.record, Step.read(made), records.Actor.read(state))
-        self.comparison.next += 1
+        self.comparison.source.take(1)
 
     def take_words(self) -> str:
         """Lets the actor have the port's word after the step."""
@@ -168,7 +168,7 @@ class Side:
 
     def take_reply(self) -> str:
         """Lets the call be over, as the port has it."""
-        self.comparison.next += 1
+        self.comparison.pass_over()
         if self.found.state.is_idle():
             return "nothing: both calls are over"
         change = self.with_actor(IDLE, "the actor is in no call")

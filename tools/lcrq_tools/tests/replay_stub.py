@@ -6,10 +6,10 @@ from pathlib import Path
 
 from lcrq_tools import model, records
 from lcrq_tools.port import port_log
-from lcrq_tools.port.port_compare import Comparison
+from lcrq_tools.port.port_compare import Comparison, Listed
 from lcrq_tools.port.port_log import Record
-from lcrq_tools.port.port_replay import Replay
-from lcrq_tools.records import Actor, Step
+from lcrq_tools.port.port_replay import Replay, Steps
+from lcrq_tools.records import Actor
 from lcrq_tools.start import starts
 from lcrq_tools.start.starts import Trace
 
@@ -67,14 +67,24 @@ class Told(Replay):
         self.asked: list[str] = []
         self.opened: list[Trace] = []  # starts, over which it went on
         self.program, self.folder, self.driven = "lcrqdb", Path("/nowhere"), None
-        self.options = ["run", "-", "--actors", "2", "--ring", "2"]
-        self.steps: list[tuple[str, Step]] = []
-        self.before, self.first, self.ring, self.states = 0, 0, 2, [IDLE, IDLE]
+        self.options = ["run", "-", "--actors", "16", "--ring", "2"]
+        self.is_fresh, self.sent = True, list[str]()  # lines whose replies are not taken yet
+        self.first, self.ring, self.states, self.steps = 0, 2, [IDLE, IDLE], Steps()
+        self.steps.freeze({1: str(IDLE).encode("ascii"), 2: str(IDLE).encode("ascii")})
 
     def ask(self, lines: list[str]) -> list[str]:
         """The replies to these lines."""
         self.asked += lines
         return [self.reply(line) for line in lines]
+
+    def send(self, lines: bytes) -> None:
+        """Takes lines whose replies are taken later."""
+        self.sent += lines.decode("ascii").splitlines()
+
+    def take(self, count: int) -> list[bytes]:
+        """So many replies to the lines that were sent."""
+        lines, self.sent = self.sent[:count], self.sent[count:]
+        return [reply.encode("ascii") for reply in self.ask(lines)]
 
     def reply(self, line: str) -> str:
         """The reply to a line."""
@@ -89,6 +99,8 @@ class Told(Replay):
                 return str(own[-1] if own else IDLE)
             case "step":
                 return self.step_of(int(rest))
+            case "len":
+                return f"at {self.made} 0"
             case "back" | "forward":
                 self.made += int(rest) if word == "forward" else -int(rest)
                 return f"at {self.made} 0"
@@ -125,7 +137,7 @@ class Told(Replay):
     def open_start(self, start: Trace) -> None:
         """Goes on over a start."""
         self.opened.append(start)
-        self.before = len(self.steps)
+        self.steps.freeze({actor: str(state).encode("ascii") for actor, state in enumerate(self.states, 1)})
         self.listed, self.made = self.listed[self.made:], 0
 
 
@@ -138,7 +150,7 @@ def records_of(*texts: str) -> list[Record]:
 
 def compared(*texts: str, replay: Replay | None = None) -> Comparison:
     """A comparison of these records, at its begin."""
-    return Comparison(replay or Told(), records_of(*texts))
+    return Comparison(replay or Told(), Listed(records_of(*texts)))
 
 
 def with_record(at: int, text: str) -> list[str]:

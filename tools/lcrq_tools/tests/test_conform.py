@@ -2,16 +2,19 @@
 
 import contextlib
 import io
+import tempfile
 import unittest
+from pathlib import Path
 from unittest import mock
 
 from lcrq_tools.faults import Fault
 from lcrq_tools.port import conform
-from lcrq_tools.port.conform import Ledger, Progress, parser
+from lcrq_tools.port import port_ledger
+from lcrq_tools.port.conform import Progress, ends, parser
 from lcrq_tools.port.port_compare import Comparison
-from lcrq_tools.port.port_log import Logs, Unreadable
 from lcrq_tools.port.port_side import Side
-from lcrq_tools.tests.replay_stub import ENQUEUE, LOG, Told, compared, records_of, with_record
+from lcrq_tools.port.port_stream import HasChoices
+from lcrq_tools.tests.replay_stub import LOG, Told, compared, with_record
 from lcrq_tools.tests.stubs import NO_PROGRAM, told, with_program
 
 HALVES = ("1 1 enq 7", "2 1 enqueued")
@@ -20,7 +23,8 @@ HALVES = ("1 1 enq 7", "2 1 enqueued")
 def whole(*texts: str) -> Comparison:
     """A comparison of these records that has come to their end."""
     made = compared(*texts)
-    made.next = len(made.records)
+    made.finish()
+    made.is_over = True
     return made
 
 
@@ -28,12 +32,12 @@ class Options(unittest.TestCase):
     """The words after the program's name."""
 
     def options(self, *words: str) -> list[str]:
-        """Those of this command line, for a log of actors 1 and 3."""
+        """Those of this command line."""
         with with_program():
-            return conform.options_of(parser().parse_args(["a.log", *words]), records_of("1 1 deq", "2 3 deq"))
+            return conform.options_of(parser().parse_args(["a.log", *words]))
 
-    def test_a_fresh_world_has_as_many_actors_as_the_log(self) -> None:
-        self.assertEqual(self.options(), ["run", "-", "--actors", "3"])
+    def test_a_fresh_world_has_as_many_actors_as_a_log_may_have(self) -> None:
+        self.assertEqual(self.options(), ["run", "-", "--actors", "16"])
         self.assertEqual(self.options("--ring", "2")[-2:], ["--ring", "2"])
 
     def test_a_trace_has_its_own_world(self) -> None:
@@ -58,30 +62,29 @@ class Values(unittest.TestCase):
         ]
         for texts, lines in rows:
             with self.subTest(texts):
-                self.assertEqual([*Ledger(whole(*texts)).lines()], lines)
+                self.assertEqual([*ends(whole(*texts))], lines)
 
     def test_the_models_reply_counts_where_the_log_has_none(self) -> None:
         made = compared(*LOG[:6], "7 1 E8 won")
         self.assertIsNone(made.difference())
-        self.assertEqual([*Ledger(made).lines()], ["1 value put and never taken: 7"])
-        again = whole("1 1 enq 7", "2 1 deq")
-        again.ends = {0: "enqueued"}
-        self.assertEqual([*Ledger(again).lines()][:-1], ["1 value put and never taken: 7"])
+        made.finish()
+        self.assertEqual([*ends(made)], ["1 value put and never taken: 7"])
+        self.assertEqual(made.ledger.running, {})
 
     def test_what_is_there_at_the_start_may_be_taken(self) -> None:
         made = whole("1 1 deq", "2 1 value 7")
-        made.start["segments"][0][0]["cells"][0][2] = 7
-        self.assertEqual([*Ledger(made).lines()], [])
+        made.ledger.possible["7"] = 1
+        self.assertEqual([*ends(made)], [])
 
     def test_nothing_is_said_of_a_log_without_replies_that_was_not_compared_to_its_end(self) -> None:
         texts = ("1 1 enq 7", "2 1 E2 none")
-        self.assertEqual([*Ledger(compared(*texts)).lines()], [])
-        self.assertEqual(len([*Ledger(whole(*texts)).lines()]), 1)
+        self.assertEqual([*ends(compared(*texts))], [])
+        self.assertEqual(len([*ends(whole(*texts))]), 1)
 
     def test_the_first_values_are_listed(self) -> None:
-        said = [*conform.listed("lost", [str(it) for it in range(12)])]
+        said = [*port_ledger.listed("lost", [str(it) for it in range(12)])]
         self.assertEqual(said, ["12 values lost: 0, 1, 2, 3, 4, 5, 6, 7, 8, 9 and 2 more"])
-        self.assertEqual([*conform.listed("lost", [])], [])
+        self.assertEqual([*port_ledger.listed("lost", [])], [])
 
 
 class Differences(unittest.TestCase):
@@ -92,7 +95,7 @@ class Differences(unittest.TestCase):
         found = comparison.difference()
         assert found
         with mock.patch.object(Side, "take", mock.Mock(side_effect=changed)):
-            return conform.go_on(comparison, found, Progress(1))
+            return conform.go_on(comparison, found, Progress())
 
     def test_it_stops_where_no_change_takes_the_ports_side(self) -> None:
         differences, stopped = self.go_on(compared(*with_record(3, "4 1 E4 open 1")), "")
@@ -109,7 +112,7 @@ class Differences(unittest.TestCase):
         comparison = compared(*with_record(2, "3 1 enqueued"))
         found = comparison.difference()
         assert found
-        differences, stopped = conform.go_on(comparison, found, Progress(1))
+        differences, stopped = conform.go_on(comparison, found, Progress())
         self.assertEqual([it[2] for it in differences], ["the actor is in no call"])
         self.assertEqual((stopped, comparison.next), ("", 3))
 
@@ -134,9 +137,9 @@ class Ends(unittest.TestCase):
         """The exit status for these records, and the lines."""
         with with_program():
             given = parser().parse_args(["a.log", *words.split()])
-        logs, output = Logs(records_of(*texts), [], []), io.StringIO()
+        comparison, output = compared(*texts), io.StringIO()
         with contextlib.redirect_stdout(output), mock.patch.object(conform, "opened_with", lambda *_: Told([])):
-            is_different = conform.compare_records(given, Told(), logs)
+            is_different = conform.compare_records(given, comparison, Progress())
         return int(is_different), output.getvalue().splitlines()
 
     def test_a_log_that_agrees_is_one_line(self) -> None:
@@ -163,34 +166,40 @@ class Ends(unittest.TestCase):
         made.has_choices = True
         self.assertTrue(conform.summary(made).endswith("; 1,200 of the choices at E10 follow from what comes after"))
 
-    def test_an_actor_that_the_trace_lacks_is_a_fault(self) -> None:
-        with with_program():
-            given = parser().parse_args(["a.log"])
+    def ended(self, reason: object = None, *words: str, log: str = "\n".join([*LOG, ""])) -> tuple[int, str, str]:
+        """How it ends for a log where this happens to the comparison."""
+        compares = Comparison.difference
         with (
-            mock.patch.object(conform, "Replay", lambda *_: Told(ENQUEUE)),
-            mock.patch.object(conform, "read_logs", lambda _: Logs(records_of("1 3 deq"), [], [])),
-            self.assertRaisesRegex(Unreadable, "^the logs have an actor 3, and the trace 2 actors$"),
+            tempfile.TemporaryDirectory() as folder, with_program(),
+            mock.patch.object(conform, "Replay", lambda *_: Told()),
+            mock.patch.object(Comparison, "difference", mock.Mock(side_effect=reason) if reason else compares),
         ):
-            conform.compare(given, Told().folder)
+            file = Path(folder) / "a.log"
+            file.write_text(log, encoding="utf-8")
+            return told(conform.main, "conform.py", str(file), "--program", NO_PROGRAM, *words)
 
-    def ended(self, reason: object = None, *words: str, cuts: list[str] = []) -> tuple[int, str, str]:
-        """How it ends where this happens to the comparison, for a log with these cuts."""
-        with (
-            with_program(), mock.patch.object(conform, "Replay", lambda *_: Told()),
-            mock.patch.object(conform, "read_logs", lambda _: Logs(records_of(*LOG), [], cuts)),
-            mock.patch.object(Comparison, "compare", mock.Mock(side_effect=reason, return_value=None)),
-            mock.patch.object(Comparison, "difference", Comparison.compare if reason else lambda *_: None),
-        ):
-            return told(conform.main, "conform.py", "a.log", "--program", NO_PROGRAM, *words)
+    def test_an_actor_that_the_trace_lacks_is_a_fault(self) -> None:
+        said = "conform.py: the logs have an actor 3, and the trace 2 actors\n"
+        self.assertEqual(self.ended(log="1 3 deq\n"), (2, "", said))
 
     def test_a_cut_log_is_named_last_and_has_status_1(self) -> None:
         for words, wanted in ((), 1), (("--cut",), 0):
-            status, output, _ = self.ended(None, *words, cuts=["a.log:7 ends behind a `;`"])
-            self.assertEqual((status, output.splitlines()[-1]), (wanted, "the log is cut: a.log:7 ends behind a `;`"))
+            status, output, _ = self.ended(None, *words, log="\n".join([*LOG[:6], "7 1 E8 won;", ""]))
+            self.assertEqual(status, wanted)
+            self.assertRegex(output.splitlines()[-1], "^the log is cut: .*a.log:7 ends behind a `;`$")
+
+    def test_a_log_in_no_order_is_sorted(self) -> None:
+        status, output, _ = self.ended(log="\n".join([*LOG[3:], *LOG[:3], ""]))
+        self.assertEqual((status, output[:34]), (0, "agrees: 7 steps, 6 accesses over r"))
+
+    def test_a_choice_that_comes_late_makes_one_that_is_left_out_a_difference(self) -> None:
+        with mock.patch.object(conform, "compare_over", mock.Mock(side_effect=[HasChoices("late"), 1])) as over:
+            self.assertEqual(self.ended()[0], 1)
+        self.assertEqual([call.args[3] for call in over.call_args_list], [False, True])
 
     def test_status_1_is_a_difference_and_no_fault(self) -> None:
         rows = [
-            (KeyboardInterrupt, "conform.py: interrupted: 0 of 7 records agree so far\n"),
+            (KeyboardInterrupt, "conform.py: interrupted: 0 records agree so far\n"),
             (BrokenPipeError, "conform.py: nobody reads what is said here: the pipe is closed\n"),
             (Fault("a fault"), "conform.py: a fault\n"),
             (ValueError("a slip"), "ValueError: a slip\nconform.py: this is a fault of the tool itself\n"),

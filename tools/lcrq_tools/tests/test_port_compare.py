@@ -3,8 +3,8 @@
 import unittest
 from unittest import mock
 
-from lcrq_tools.port import port_compare
-from lcrq_tools.port.port_compare import Comparison, Difference
+from lcrq_tools.port import port_compare, port_replay
+from lcrq_tools.port.port_compare import Comparison, Difference, Listed
 from lcrq_tools.records import Actor
 from lcrq_tools.tests.replay_stub import ENQUEUE, IDLE, LOG, Made, Told, actor, compared, records_of, with_record
 
@@ -54,8 +54,8 @@ class Agreement(unittest.TestCase):
         self.assertEqual((comparison.compared, comparison.accesses), (wanted, 6))
         self.assertEqual(comparison.replay.lines(), [line for line, _, _ in ENQUEUE])
         self.assertEqual([point for point, _ in comparison.replay.steps], "Idle E1 E2 E4 E5 E6 E8".split(" "))
-        self.assertEqual((comparison.ends, comparison.names.segments), ({0: "enqueued"}, {"root": "0.0"}))
-        self.assertEqual((comparison.steps_of, comparison.next), ({1: 7}, len(LOG)))
+        self.assertEqual((comparison.ledger.enqueued, comparison.names.segments), ({"7": 1}, {"root": "0.0"}))
+        self.assertEqual((comparison.replay.steps.last_of(1), comparison.next), (7, len(LOG)))
 
     def test_a_reply_may_have_a_record_of_its_own(self) -> None:
         comparison = compared(*LOG[:6], "7 1 E8 won", "8 1 enqueued")
@@ -71,7 +71,7 @@ class Agreement(unittest.TestCase):
 
     def test_a_long_run_is_frozen_and_goes_on(self) -> None:
         told = Told()
-        with mock.patch.multiple(port_compare, FREEZE_AT=2, RECORDS=3):
+        with mock.patch.object(port_compare, "RECORDS", 3), mock.patch.object(port_replay, "FREEZE_AT", 3):
             comparison = compared(*LOG, replay=told)
             self.assertIsNone(comparison.difference())
         self.assertEqual((len(told.opened), told.count(), told.live()), (2, 7, 1))
@@ -179,7 +179,7 @@ class Choices(unittest.TestCase):
         rows: list[tuple[list[str], bool]] = [(["4 1 E10 no"], False), ([], True)]
         for more, asks in rows:
             told = Told([*TO_E10, *CHOSEN["starve 1 yes"]], forks=CHOSEN)
-            comparison = Comparison(told, records_of(*texts, *more), asks_choices=asks)
+            comparison = Comparison(told, Listed(records_of(*texts, *more)), asks_choices=asks)
             found = comparison.difference()
             assert found
             self.assertEqual((found.kind, found.port, found.index, found.step), ("choice", "E11", 2, 3))

@@ -68,7 +68,7 @@ class Runs(unittest.TestCase):
             made.keep(WENT, actor("Q2", "deq"))
             self.assertEqual((made.count(), made.live(), made.states), (2, 4, [IDLE, actor("Q2", "deq")]))
             made.drop(actor("Q1", "deq"))
-            self.assertEqual((made.lines(), made.steps), (["deq 2"], [("Idle", CALLED)]))
+            self.assertEqual((made.lines(), [*made.steps]), (["deq 2"], [("Idle", CALLED)]))
             self.assertEqual(made.states[1], actor("Q1", "deq"))
 
     def test_over_a_start_the_steps_before_it_stay_counted(self) -> None:

@@ -9,11 +9,12 @@ from unittest import mock
 from lcrq_tools.draw import picture
 from lcrq_tools.faults import Fault
 from lcrq_tools.page import page
-from lcrq_tools.port import port_report
+from lcrq_tools.port import port_replay, port_report
 from lcrq_tools.port.port_compare import Difference
 from lcrq_tools.port.port_report import About, phrase_of, said_of
 from lcrq_tools.records import Actor, Place, Step
-from lcrq_tools.tests.replay_stub import ENQUEUE, IDLE, LOG, Told, actor, compared, records_of, with_record
+from lcrq_tools.start import starts
+from lcrq_tools.tests.replay_stub import ENQUEUE, IDLE, LOG, START, Told, actor, compared, records_of, with_record
 
 SHOWN = {"show tail 0.0": "is open 0"}
 DREW = with_record(3, "4 1 E4 tail root; wrote; open 5")  # the log, up to a record whose answer differs
@@ -167,13 +168,14 @@ class Files(unittest.TestCase):
         made = about(*DREW)
         with tempfile.TemporaryDirectory() as name:
             folder = Path(name)
-            self.assertEqual(made.options(folder), ["--actors", "2", "--ring", "2"])
+            self.assertEqual(made.options(folder), ["--actors", "1", "--ring", "2"])
             made.replay.options = ["load", "--", "a.trace"]
             self.assertEqual(made.options(folder), ["--trace", "a.trace"])
-            (folder / "3.trace").write_bytes(b"a start")
-            made.replay.options, made.replay.before = ["load", "--", str(folder / "3.trace")], 3
+            (folder / "3.trace").write_text(starts.text_of(START), encoding="ascii")
+            made.replay.options, made.replay.steps.before = ["load", "--", str(folder / "3.trace")], 3
             self.assertEqual(made.options(folder), ["--trace", str(folder / "from.trace")])
-            self.assertEqual((folder / "from.trace").read_bytes(), b"a start")
+            one = (folder / "from.trace").read_text(encoding="ascii")
+            self.assertEqual(one, starts.text_of(port_replay.trimmed(START, 1)))
 
     def test_files_are_written_and_named(self) -> None:
         draws = tool(lambda _: False)

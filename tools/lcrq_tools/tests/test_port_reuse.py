@@ -34,7 +34,9 @@ class Holders(unittest.TestCase):
         made = Told([], {f"show {place}": f"is {content}" for place, content in shown.items()})
         made.states = [IDLE, actor("E13", crq="1.0", new="3.0")]
         rows = [("E13", "next 0.0; wrote; won; -"), ("E1", "qtail; read; 1.0; -"), ("E14", "qtail; wrote; won; -")]
-        made.steps = [(point, Step.read(f"step 1; go 2; {did}")) for point, did in rows]
+        for (_, did), (point, _) in zip(rows, [*rows[1:], ("Q1", "")]):
+            made.steps.add(Step.read(f"step 1; go 2; {did}"), actor(point))
+        made.steps.first[2] = str(actor(rows[0][0])).encode("ascii")
         return made
 
     def test_each_is_named_with_the_step_since_when(self) -> None:
