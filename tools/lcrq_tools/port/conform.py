@@ -41,7 +41,7 @@ from lcrq_tools.port.port_compare import Comparison, Difference
 from lcrq_tools.port.port_ledger import first_of
 from lcrq_tools.port.port_log import Record, Unreadable
 from lcrq_tools.port.port_replay import Replay
-from lcrq_tools.port.port_report import About
+from lcrq_tools.port.port_report import About, emptied
 from lcrq_tools.port.port_rings import guesses
 from lcrq_tools.port.port_side import Side
 from lcrq_tools.port.port_stream import HasChoices, OutOfOrder, Raw, Source
@@ -156,6 +156,8 @@ def compare(given: argparse.Namespace, folder: Path) -> int:
     """Compares the logs; returns the exit status. Where it comes out late that they have to be sorted, or that
     they have choices, it begins again."""
     asks = given.strict
+    if given.output:
+        emptied(given.output)
     with contextlib.closing(Source(given.logs)) as source:
         while True:
             try:

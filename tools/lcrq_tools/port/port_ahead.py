@@ -6,7 +6,7 @@ while the program works at the next one. What differs, and what can't be predict
 from collections.abc import Callable, Iterator, Sequence
 from typing import TYPE_CHECKING
 
-from lcrq_tools.port.port_batch import LINES, Batch, Plan, Predictor
+from lcrq_tools.port.port_batch import LINES, Batch, Plan, Predictor, name_in
 from lcrq_tools.port.port_log import Record
 from lcrq_tools.port.port_stream import Raw, Source
 from lcrq_tools.records import Actor
@@ -82,7 +82,10 @@ class Ahead:
         self.moved.update(batch.actors[:cut])
         words = sum(len(them) for step, them in batch.words.items() if step < cut and not reply_in(replies[1][step]))
         comparison.count(right, batch.counted(right), words)
-        comparison.last.update((actor, batch.raws[at]) for actor, at in batch.last_raws.items() if at < right)
+        if right == len(batch.plans):
+            comparison.last |= batch.last_raws
+        else:
+            comparison.last |= {self.source.actors.number(name_in(raw)): raw for raw in batch.raws[:right]}
 
     def note_calls(self, batch: Batch, right: int, steps: Sequence[bytes], known: Known) -> None:
         """Notes the calls and the replies of so many records."""

@@ -5,6 +5,7 @@ Each step of a batch is three lines: the one that makes it, `step K` and `actor 
 predict ends its batch: a name's first use, memory that is used again, and a record that can't be read.
 """
 
+import collections
 import functools
 import itertools
 import re
@@ -31,6 +32,7 @@ USUAL = re.compile(
     rb"((?!E1 |E2 |E1[0234] |Q1 |Q1[34] )[EQ][0-9]+) ((?:won|lost|none|(?:open |closed |[01] )?%b))"
     rb"(?:; ((?:t|h|idx|pass) %b))?" % (NUMBER, NUMBER)
 )
+NAMING = re.compile(rb"(E1(?!2)|E2|Q1|Q13|E12(?= made)) (made )?(0x[1-9a-f][0-9a-f]*)")
 CALLED = re.compile(rb"(enq %b|deq)" % NUMBER)
 REPLIED = re.compile(rb"(value %b|empty|enqueued)" % NUMBER)
 
@@ -70,6 +72,11 @@ def quick_plan(what: bytes) -> Plan | None:
         label, answer, word = step.groups()
         words = (b" %b" % word if word[:1] == b"p" else b" %b " % word,) if word else ()
         return Plan(1, GO, head_of(label), b"; %b; -" % answer, (), words, counts=(1, 0, 1, 0, 1, 0))
+    if named := NAMING.fullmatch(what):
+        label, makes, name = named.groups()
+        made = (name,) if makes else ()
+        tail = b"; made %s; -" if makes else b"; %s; -"
+        return Plan(1, GO, head_of(label), tail, (name,), makes=bool(makes), made=made, counts=(1, 0, 1, 0, 1, 0))
     if call := CALLED.fullmatch(what):
         word, _, value = call[1].partition(b" ")
         said = b"%b %%d %b" % (word, value) if value else b"%b %%d" % word
@@ -180,24 +187,31 @@ class Batch:
         self.raws = raws
         self.plans: list[Plan] = []
         self.asked: list[bytes] = []
-        self.actors, self.at = bytearray(), list[int]()  # of each step the actor, and which of the records it is
-        self.heads: list[bytes] = []
-        self.by: list[int] = []  # of each step the record that says how its head has to be
-        self.tails: list[bytes] = []
+        self.actors = bytearray()
+        self.heads, self.tails = [b"actor "] * len(raws), list[bytes]()
         self.words: dict[int, tuple[bytes, ...]] = {}  # of a step
         self.ends: dict[int, bytes] = {}  # of steps whose replies no record says: the end without a reply
         self.firsts: list[tuple[int, int, bytes, bytes]] = []  # records, actors, and what is known of both replies
         self.learned: list[tuple[int, int, tuple[bytes, ...]]] = []  # records, actors, and the segments' names
-        self.calls: list[tuple[int, int, Plan, int]] = []  # records, actors, plans, and the steps before by these actors
-        self.last_raws: dict[int, int] = {}  # the last record of each actor
+        self.calls: list[tuple[int, int, Plan, int]] = []  # records, actors, plans, and the actors' steps before
+        self.last_raws: dict[int, Raw] = {}  # the last record of each actor
 
     def text(self) -> bytes:
         """The lines that are asked."""
         return b"".join(self.asked)
 
+    def at(self) -> list[int]:
+        """Which of the records each step is."""
+        return [record for record, plan in enumerate(self.plans) if plan.way < 2]
+
     def cut(self, record: int) -> int:
         """How many of the steps are of records before this one."""
-        return next((step for step, at in enumerate(self.at) if at >= record), len(self.at))
+        return len(self.tails) if record == len(self.plans) else sum(plan.way < 2 for plan in self.plans[:record])
+
+    def by(self, record: int) -> int:
+        """The next record of the same actor."""
+        name = name_in(self.raws[record])
+        return next(at for at in range(record + 1, len(self.plans)) if name_in(self.raws[at]) == name)
 
     def first_fault(self, replies: Sequence[Sequence[bytes]], known: Mapping[int, tuple[bytes, bytes]]) -> int:
         """The first record, or one before it, of which something is not as predicted; how many there are if all
@@ -219,7 +233,7 @@ class Batch:
 
     def faults(self, oks: Sequence[bytes], steps: Sequence[bytes], stands: Sequence[bytes]) -> Iterator[int]:
         """The records whose replies are not as predicted."""
-        for step, at in enumerate(self.at):
+        for step, at in enumerate(self.at()):
             if not oks[step].startswith(b"ok ") or not steps[step].endswith(self.tails[step]):
                 yield at
             if not steps[step].rpartition(b"; ")[0].endswith(self.ends.get(step, b"")):
@@ -227,7 +241,7 @@ class Batch:
             if not has_words(stands[step], self.words.get(step, ())):
                 yield at
             if not stands[step].startswith(self.heads[step]):
-                yield self.by[step]
+                yield self.by(at)
 
     @staticmethod
     def is_first(row: tuple[int, int, bytes, bytes], known: Mapping[int, tuple[bytes, bytes]]) -> bool:
@@ -238,7 +252,13 @@ class Batch:
 
     def counted(self, count: int) -> tuple[int, ...]:
         """How many labels, places, answers and replies its first records have."""
-        return tuple(map(sum, zip(*map(itemgetter(-1), [SLOW, *self.plans[:count]]))))
+        rows = collections.Counter(map(itemgetter(-1), self.plans[:count]))
+        return tuple(sum(row[at] * times for row, times in rows.items()) for at in range(len(SLOW.counts)))
+
+
+def name_in(raw: Raw) -> bytes:
+    """The name of a record's actor."""
+    return raw[2].split(b" ", 2)[1]
 
 
 def has_words(stand: bytes, words: tuple[bytes, ...]) -> bool:
@@ -263,26 +283,23 @@ class Predictor:
     def batch(self, raws: list[Raw]) -> Batch:
         """A batch of these records, up to one that can't be predicted."""
         self.now, self.last = Batch(raws), dict[int, int]()
-        for raw in raws:
-            if not self.add(raw):
+        plans, last_raws = self.now.plans, self.now.last_raws
+        for raw, (actor, plan) in zip(raws, map(self.parsed, raws)):
+            if not actor or plan.way < 0 or not self.ways[plan.way](actor, plan):
                 break
+            last_raws[actor] = raw
+            plans.append(plan)
         for step in self.last.values():
             self.leave_reply(step)
         return self.now
 
     def parsed(self, raw: Raw) -> tuple[int, Plan]:
         """The actor of a record, 0 if it is new, and its plan."""
-        _, name, what = [*raw[2].split(b" ", 2), b"", b""][:3]
+        try:
+            _, name, what = raw[2].split(b" ", 2)
+        except ValueError:
+            return 0, SLOW
         return self.actors.numbers.get(name, 0), self.plans.get(what) or self.plan(what)
-
-    def add(self, raw: Raw) -> bool:
-        """Adds a record; whether it can be predicted."""
-        actor, plan = self.parsed(raw)
-        if not actor or plan.way < 0 or not self.ways[plan.way](actor, plan):
-            return False
-        self.now.last_raws[actor] = len(self.now.plans)
-        self.now.plans.append(plan)
-        return True
 
     def plan(self, what: bytes) -> Plan:
         """A plan that was not kept."""
@@ -293,14 +310,11 @@ class Predictor:
 
     def made_by(self, actor: int, asked: bytes) -> int:
         """Adds a step of an actor; returns which one it is."""
-        batch, step = self.now, len(self.now.tails)
+        batch = self.now
         batch.asked.append(asked % (actor, self.number, actor))
         batch.actors.append(actor)
-        batch.at.append(len(batch.plans))
-        batch.heads.append(b"actor ")
-        batch.by.append(0)
         self.number += 1
-        self.last[actor] = step
+        self.last[actor] = step = len(batch.tails)
         return step
 
     def head(self, actor: int, head: bytes, tail: bytes = b"") -> None:
@@ -309,7 +323,7 @@ class Predictor:
         if last is None:
             batch.firsts.append((len(batch.plans), actor, head, tail))
         else:
-            batch.heads[last], batch.by[last] = head, len(batch.plans)
+            batch.heads[last] = head
 
     def call(self, actor: int, plan: Plan) -> bool:
         """Adds a call."""

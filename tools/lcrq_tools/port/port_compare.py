@@ -14,7 +14,7 @@ from lcrq_tools.port.port_log import CHOICES, Names, Record, Reuse
 from lcrq_tools.port.port_replay import Replay
 from lcrq_tools.port.port_stream import Actors, HasChoices, Raw, Source
 from lcrq_tools.records import CALLS, NOTHING, Actor, Event, Refusal, Step, is_made
-from lcrq_tools.start.starts import values_in
+from lcrq_tools.start.starts import reachable, values_in
 
 RECORDS = 1000  # that are compared at a time
 NEEDS_CHOICE = "refused 4 "
@@ -92,7 +92,7 @@ class Comparison:
                 self.freeze()
             if self.ahead and not self.ahead.run(progress):
                 self.is_over = True
-            elif found := self.compare_some(1 if self.ahead else RECORDS):
+            elif self.replay.room() > 0 and (found := self.compare_some(1 if self.ahead else RECORDS)):
                 return found
         return None
 
@@ -110,8 +110,12 @@ class Comparison:
         return found
 
     def freeze(self) -> None:
-        """Goes on over the world as a start."""
-        self.replay.open_start(self.replay.start())
+        """Goes on over the world as a start. What nobody can name any more is forgotten."""
+        start = self.replay.start()
+        self.replay.open_start(start)
+        segments = reachable(start["start"])
+        self.names.forget(segments)
+        self.replay.steps.forget_links(segments)
 
     def pass_over(self) -> None:
         """Passes over the next record, which was compared."""

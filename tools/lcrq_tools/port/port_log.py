@@ -11,7 +11,7 @@ import io
 import itertools
 import re
 import sys
-from collections.abc import Iterator, Sequence
+from collections.abc import Collection, Iterator, Sequence
 from dataclasses import dataclass
 from pathlib import Path
 
@@ -21,6 +21,7 @@ from lcrq_tools.options import MOST_ACTORS
 from lcrq_tools.records import CALLS, NOTHING, PLACES, WORDS
 
 MOST_NUMBER = 2**64 - 1
+MOST_NAMES = 10_000  # of segments, of which most are out of use
 MOST_LETTERS = 1000  # of a word; Python reads no number of some thousand digits
 SHOWN_LETTERS = 100  # of a record that can't be read
 BYTE_ORDER_MARKS = ("\ufeff", "\ufffd\ufffd")  # of UTF-8, and how one of UTF-16 comes through
@@ -291,6 +292,12 @@ class Names:
         self.names.pop(self.segments.get(name, ""), None)
         self.segments.pop(self.names.get(segment, ""), None)
         self.segments[name], self.names[segment] = segment, name
+
+    def forget(self, kept: Collection[str]) -> None:
+        """Forgets the names of other segments than these, once there are many."""
+        gone = [segment for segment in self.names if segment not in kept] if len(self.names) > MOST_NAMES else []
+        for segment in gone:
+            self.segments.pop(self.names.pop(segment), None)
 
     def note_reuse(self, name: str, segment: str) -> None:
         """Notes that a name comes to be this segment's, if it was another one's before."""

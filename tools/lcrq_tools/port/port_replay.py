@@ -6,6 +6,7 @@ Of a frozen run's steps only those stay known that a report may name.
 
 import contextlib
 import fcntl
+import itertools
 import os
 import select
 from collections.abc import Collection, Iterator, Sequence
@@ -13,9 +14,11 @@ from pathlib import Path
 
 from lcrq_tools.program import PIPE_BYTES, Broken, Driven
 from lcrq_tools.records import Actor, Counts, Place, Step
-from lcrq_tools.start.starts import Asked, Start, Trace, text_of
+from lcrq_tools.start.starts import Asked, Segment, Start, Trace, text_of
 
 SET_AT = {"crq": ("E1", "Q1"), "new": ("E12",), "next": ("E2", "Q13")}  # words of an actor, and the lines that set each
+LINKING = {b"qh", b"qt", b"ne", b"wh"}  # how the places begin that they touch
+LONGEST = len("actor Idle none")  # letters of a reply to `actor A` that have the control point
 SETS = {point for points in SET_AT.values() for point in points}
 FREEZE_AT = 60_000  # live steps, of the 65,535 that there may be
 AHEAD = 1 << 20  # bytes of lines and of replies that may wait in the pipes
@@ -103,7 +106,13 @@ class Steps(Sequence[Made]):
 
     def all_points(self) -> set[str]:
         """The control points of all steps."""
-        return self.points.union(map(self.point, range(len(self.made))))
+        stands = {stand[:LONGEST] for stand in itertools.chain(self.first.values(), self.stands)}
+        return self.points.union(map(point_of, stands))
+
+    def segments(self) -> set[str]:
+        """The segments that the steps since the start touched."""
+        places = {text.split(b"; ", 3)[2] for text in self.made}
+        return {words[1].decode("ascii") for place in places if len(words := place.split(b" ")) > 1}
 
     def touching(self, place: Place, first: int) -> list[int]:
         """The numbers of the steps since the start, from this one on, that touched a place."""
@@ -113,18 +122,27 @@ class Steps(Sequence[Made]):
 
     def freeze(self, first: dict[int, bytes]) -> None:
         """Forgets the steps since the last start, but for what a report may name."""
-        stand = {actor: point_of(text) for actor, text in self.first.items()}
-        self.points.update(stand.values())
-        for number, (actor, text) in enumerate(zip(self.actors, self.made), self.before + 1):
-            point, stand[actor] = stand[actor], point_of(self.stands[number - 1 - self.before])
-            self.points.add(point)
-            is_link = b"; wrote; " in text and (b"; q" in text or b"; next " in text)
-            if point in SETS or is_link:
-                made = point, Step.read(text.decode("ascii"))
-                self.known |= {(actor, point): (number, made)} | ({made[1].place: (number, made)} if is_link else {})
+        self.points = self.all_points()
+        for here in self.last_ones():
+            made, number = self[self.before + here], self.before + here + 1
+            if made[1].access == "wrote":
+                self.known[made[1].place] = number, made
+            if made[0] in SETS:
+                self.known[self.actors[here], made[0]] = number, made
         self.known |= {actor: (last, self[last - 1]) for actor in {*self.actors} if (last := self.last_of(actor))}
         self.before, self.first, self.actors = len(self), first, bytearray()
         self.made, self.stands = [], []
+
+    def last_ones(self) -> list[int]:
+        """Of the steps since the start the last that linked each segment, and the last of each actor that set a
+        word: which they are."""
+        found: dict[object, int] = {}
+        for here in range(len(self.made) - 1, -1, -1):
+            _, _, place, access, answer, _ = self.made[here].split(b"; ", 5)
+            kind = place[:2]
+            if kind in LINKING and answer != b"lost":
+                found.setdefault(place if answer == b"won" else (self.actors[here], kind), here)
+        return sorted(found.values())
 
     def forget_links(self, segments: Collection[str]) -> None:
         """Forgets who linked segments, but for these."""
@@ -203,6 +221,7 @@ class Replay:
     def __init__(self, program: str, folder: Path, options: Sequence[str]):
         self.program, self.folder = program, folder
         self.is_fresh = options[0] == "run"  # so it has idle actors whom no log may know
+        self.known: list[list[Segment]] = []  # the segments at the start, if it is one of the tool's own
         self.driven: Driven | None = None  # none before it is opened
         self.steps = Steps()
         self.open(options)
@@ -230,6 +249,7 @@ class Replay:
         file.write_text(text_of(start), encoding="ascii")
         last = self.options[-1] if self.before else ""
         self.open(["load", "--", str(file)])
+        self.known = start["start"]["segments"]
         if last and last != str(file):
             Path(last).unlink(missing_ok=True)
 
@@ -287,4 +307,4 @@ class Replay:
 
     def start(self) -> Trace:
         """The world as a start."""
-        return Asked(self.ask).trace()
+        return Asked(self.ask).trace(self.known, self.steps.segments() if self.known else ())

@@ -25,6 +25,7 @@ from lcrq_tools.start.starts import Trace
 ROWS = 25  # steps of the picture
 PAGE_LINES = 100  # of the script, on the page
 TOUCHES = 8  # steps that are named, of those that touched a place
+FILES = ("to.script", "before.trace", "from.trace", "steps.svg", "steps.html")
 Tool = Callable[[list[str]], int]  # the `main` of what draws a run, by the words of a command line
 VERBS = {"reply": "replied ", "place": "accessed ", "access": "", "answer": "found "}  # for each kind of difference
 ENDS = {"qhead": "QHead", "qtail": "QTail", "ahead": "ArrHead", "atail": "ArrTail"}
@@ -81,6 +82,13 @@ def said_of(found: Difference) -> str:
             return f"the model, at {point}, can't make this step: {ours}"
     verb = "" if port in ("won", "lost") else VERBS[found.kind]
     return f"at {point} the port {verb}{port}, the model {ours or 'goes on'}"
+
+
+def emptied(folder: Path) -> None:
+    """Makes a folder for the files about a difference, or takes those of an older run out of it."""
+    folder.mkdir(parents=True, exist_ok=True)
+    for name in FILES:
+        (folder / name).unlink(missing_ok=True)
 
 
 class About:
@@ -265,5 +273,7 @@ class About:
                 tool([*options, *part, "-o", str(output)])
                 return f"{output}: the last steps"
             except FAULTS as fault:
-                said = text_of(fault)
+                said = text_of(fault) or type(fault).__name__
+            except Exception as fault:  # of the tool that draws; the report is right all the same
+                said = f"{type(fault).__name__}: {fault}"
         return f"no {output.name}: {said}"

@@ -27,7 +27,8 @@ AGAIN = 1 << 20  # bytes of a pipe that can be read again
 EARLY = 10_000  # records from the first on that are kept
 
 STAMPS = re.compile(rb"^[0-9]{1,30}(?= )", re.MULTILINE)
-UNUSUAL = re.compile(rb"[^\x20-\x7e\n]|;[ ]*$|[ ]$", re.MULTILINE)  # what a line is looked at for by itself
+USUAL = bytes([*range(0x20, 0x7F), 10])  # bytes
+ENDS = (b" ", b";")  # of a line that is looked at by itself
 CHOICE = re.compile(rb"^\S+\s+\S+\s+(?:E10|starve)\s", re.MULTILINE)
 STAMP = operator.itemgetter(0)
 
@@ -116,7 +117,8 @@ class Log:
         """Adds the records of whole lines."""
         lines, stamps, first = whole.split(b"\n"), STAMPS.findall(whole), self.order + 1
         self.order += len(lines)
-        is_usual = len(stamps) == len(lines) and not UNUSUAL.search(whole)
+        is_usual = len(stamps) == len(lines) and not whole.translate(None, USUAL) and not whole.endswith(ENDS)
+        is_usual = is_usual and not any(end + b"\n" in whole for end in ENDS)
         usual = zip(map(int, stamps), itertools.count(first), lines)
         raws = [*(usual if is_usual else self.one_by_one(lines, first))]
         order = [self.last, *map(STAMP, raws)]

@@ -5,7 +5,7 @@ version 2.
 
 import itertools
 import json
-from collections.abc import Callable, Collection, Iterable, Iterator, Mapping
+from collections.abc import Callable, Collection, Iterable, Iterator, Mapping, Sequence
 from typing import Any, Literal, TypedDict, cast
 
 from lcrq_tools import records
@@ -122,6 +122,20 @@ def values_in(start: Start, calls: Collection[str]) -> Iterator[int]:
     yield from (int(op[1]) for actor in start["actors"] if (op := actor["op"]) and op[0] in calls)
 
 
+def reachable(start: Start) -> set[str]:
+    """The segments that an end or an actor has, and those to which they lead. No step names another one that is
+    made already."""
+    held = ((actor["crq"], actor["new"], actor["next"]) for actor in start["actors"])
+    ways = [start["qhead"], start["qtail"], *itertools.chain.from_iterable(held)]
+    found: set[str] = set()
+    while ways:
+        maker, number = ways.pop()
+        after = start["segments"][maker][number]["next"]
+        ways += [after] if after and f"{maker}.{number}" not in found else []
+        found.add(f"{maker}.{number}")
+    return found
+
+
 # ---- What a reply shows, as a trace has it -------------------------------------------------------
 
 
@@ -223,9 +237,9 @@ class Asked:
                     return
                 yield reply.removeprefix("is ")
 
-    def count(self, line: str) -> int:
-        """How many numbers there are for a line, from 0 on."""
-        return sum(1 for _ in self.all_of(line))
+    def count(self, line: str, first: int = 0) -> int:
+        """How many numbers there are for a line, from 0 on, of which so many are known."""
+        return first + sum(1 for _ in self.all_of(line, first))
 
     def segment(self, name: str, ring: int) -> Segment:
         """The segment of this name."""
@@ -243,14 +257,18 @@ class Asked:
         slots = enumerate(self.all_of("show acell {}"))
         return {"head": head, "tail": tail, "cells": [slot_of(*slot) for slot in slots if slot[1] != "empty"]}
 
-    def trace(self) -> Trace:
-        """The whole world as a trace that begins there."""
+    def trace(self, known: Sequence[Sequence[Segment]] = (), touched: Collection[str] = ()) -> Trace:
+        """The whole world as a trace that begins there. Of its segments those that are known, and were not touched
+        since, aren't asked for."""
         actors = [actor_of(records.Actor.read(reply)) for reply in self.all_of("actor {}", 1)]
         ring = self.count("show cell 0.0 {}")
-        counts = [self.count(f"show whole {maker}.{{}}") for maker in range(len(actors) + 1)]
-        made = [
-            [self.segment(f"{maker}.{number}", ring) for number in range(count)] for maker, count in enumerate(counts)
-        ]
+        kept = {f"{maker}.{number}": segment for maker, own in enumerate(known) for number, segment in enumerate(own)}
+        for name in touched:
+            kept.pop(name, None)
+        firsts = [*map(len, known), *[0] * (len(actors) + 1)]
+        counts = [self.count(f"show whole {maker}.{{}}", firsts[maker]) for maker in range(len(actors) + 1)]
+        names = [[f"{maker}.{number}" for number in range(count)] for maker, count in enumerate(counts)]
+        made = [[kept.get(name) or self.segment(name, ring) for name in own] for own in names]
         qhead, qtail = map(name_of, self.show(*ENDS))
         start: Start = {
             "actors": actors, "segments": made, "qhead": qhead, "qtail": qtail, "array": self.array(),

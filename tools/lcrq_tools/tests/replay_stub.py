@@ -68,7 +68,8 @@ class Told(Replay):
         self.opened: list[Trace] = []  # starts, over which it went on
         self.program, self.folder, self.driven = "lcrqdb", Path("/nowhere"), None
         self.options = ["run", "-", "--actors", "16", "--ring", "2"]
-        self.is_fresh, self.sent = True, list[str]()  # lines whose replies are not taken yet
+        self.is_fresh, self.known = True, []
+        self.sent: list[str] = []  # lines whose replies are not taken yet
         self.first, self.ring, self.states, self.steps = 0, 2, [IDLE, IDLE], Steps()
         self.steps.freeze({1: str(IDLE).encode("ascii"), 2: str(IDLE).encode("ascii")})
 
