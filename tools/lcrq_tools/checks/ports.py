@@ -15,6 +15,7 @@ kind of run that needs them says `skipped`.
   are cut, or of another ring: each with what is said, and the status.
 - The form without labels, logs in parts, names of threads, logs from a pipe, and logs of more than
   65,535 steps; and lines that can't be read.
+- A difference in a pipe is said at once; memory does not grow; the folder of -o is looked at first.
 - What lesson 16 shows of its log and its continuations, and `tools/freeze.py --check` of each flaw.
 
 What it does not see: memory order, since the port's accesses are logged under one lock and so are
@@ -31,7 +32,7 @@ from pathlib import Path
 from typing import Any
 
 from lcrq_tools import model, program
-from lcrq_tools.checks import changed_logs, planted_logs
+from lcrq_tools.checks import changed_logs, planted_logs, streamed_logs
 from lcrq_tools.checks.port_runs import RINGS, Bench, Report, agrees, differs, steps_with
 from lcrq_tools.port.port_log import Record
 from lcrq_tools.program import EXAMPLES, TOP
@@ -201,6 +202,7 @@ OF_THE_PORT: dict[str, Callable[[Bench], Iterator[tuple[str, str]]]] = {
     "changed logs": changed_logs.change_runs,
     "planted logs": planted_logs.planted_runs,
     "other forms of logs": changed_logs.form_runs,
+    "logs that come slowly": streamed_logs.streamed_runs,
     "logs of more than 65,535 steps": changed_logs.long_runs,
 }
 

@@ -5,7 +5,7 @@ and names the first access where the two differ, with what is around it.
         [--program P]
 
 The form of a log is in docs/MANUAL.md under PORTS; `-` is standard input. The logs are merged by
-their stamps. Over a fresh world with rings of R cells, 4 if left out, or over a trace, each record
+their stamps as they come, and a record that agrees is forgotten. Over a fresh world with rings of R cells, 4 if left out, or over a trace, each record
 is made as a step, and what it says is compared with the replies: the control point, the place, the
 access, the answer, the reply of the call, and words of the actor. What a record leaves out is not
 compared. A run may be longer than the most live steps: it is frozen then, and goes on.

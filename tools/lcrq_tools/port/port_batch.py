@@ -348,9 +348,10 @@ class Predictor:
             self.head(actor, plan.head)
         step = self.made_by(actor, plan.asked)
         self.now.tails.append(tail)
-        if words and not plan.said:
-            self.now.words[step] = words
-        if plan.said:
+        if not plan.said:
+            if words:
+                self.now.words[step] = words
+        else:
             self.now.calls.append((len(self.now.plans), actor, plan, step))
         return True
 

@@ -75,9 +75,10 @@ class Comparison:
         self.ahead = Ahead(self, source) if isinstance(source, Source) else None
         self.names = Names()
         self.sent = replay.count()  # how many steps the program has made, of which the last are not compared yet
-        start = replay.start()["start"]  # the parts with which it began
-        self.made = [*map(len, start["segments"]), *[0] * MOST_ACTORS]  # how many segments each actor has made
-        self.ledger = Ledger(map(str, values_in(start, ("enq", "aenq"))))
+        start = None if replay.is_fresh else replay.start()["start"]  # the parts with which it began
+        made = map(len, start["segments"]) if start else [1]
+        self.made = [*made, *[0] * MOST_ACTORS]  # how many segments each actor has made, and the root
+        self.ledger = Ledger(map(str, values_in(start, ("enq", "aenq")) if start else ()))
         self.next, self.is_over = 0, False  # the next record, and whether there is none
         self.states_before: dict[int, Actor] = {}  # each actor before its last step
         self.last: dict[int, Record | Raw] = {}  # the last record of each actor

@@ -12,7 +12,7 @@ import select
 from collections.abc import Collection, Iterator, Sequence
 from pathlib import Path
 
-from lcrq_tools.program import PIPE_BYTES, Broken, Driven
+from lcrq_tools.program import Broken, Driven
 from lcrq_tools.records import Actor, Counts, Place, Step
 from lcrq_tools.start.starts import Asked, Segment, Start, Trace, text_of
 

@@ -7,6 +7,7 @@ import collections
 import json
 import re
 from collections.abc import Callable, Iterable, Iterator
+from html import escape
 from pathlib import Path
 
 from lcrq_tools import model
@@ -247,6 +248,17 @@ class About:
         yield self.drawn(picture.main, options, self.windows(self.replay.first + len(lines)), folder / "steps.svg")
         part = ["--lines", f"{max(1, len(lines) - PAGE_LINES + 1)}:{len(lines)}"]
         yield self.drawn(page.main, options, [part], folder / "steps.html")
+        if (folder / "steps.html").exists():
+            self.open_at(len(lines), folder / "steps.html")
+
+    def open_at(self, line: int, file: Path) -> None:
+        """Lets a page open at a line, and shows the port's side above it."""
+        text = file.read_text(encoding="utf-8")
+        opens = f'<script>location.hash = location.hash || "#line={line}";</script>'
+        said = f"<strong>Line {line}: the port differs.</strong> {escape(self.headline())}"
+        note = f'<p class="head">{said}<br>Its record: <code>{escape(self.found.record.text)}</code></p>'
+        text = text.replace("</head>", f"{opens}\n</head>", 1).replace("</header>", f"</header>\n{note}", 1)
+        file.write_text(text, encoding="utf-8")
 
     def windows(self, count: int) -> Iterator[list[str]]:
         """The options that choose the rows of the picture of so many steps: the last ones at the places in

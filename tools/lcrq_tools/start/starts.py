@@ -216,7 +216,7 @@ def set_part(segment: Segment, kind: str, index: int, words: list[str]) -> None:
 
 # ---- The world of a run --------------------------------------------------------------------------
 
-AT_ONCE = 64  # lines that are asked where nobody knows how many there are
+AT_ONCE = 64  # lines that are asked at most where nobody knows how many there are; the first time two
 
 
 class Asked:
@@ -231,11 +231,14 @@ class Asked:
 
     def all_of(self, line: str, first: int = 0) -> Iterator[str]:
         """What is replied to a line with this number and each one after it, up to one that is refused."""
-        for begin in itertools.count(first, AT_ONCE):
-            for reply in self.ask([line.format(number) for number in range(begin, begin + AT_ONCE)]):
+        count = 1
+        while True:
+            count = min(AT_ONCE, 2 * count)
+            for reply in self.ask([line.format(number) for number in range(first, first + count)]):
                 if reply.startswith("refused "):
                     return
                 yield reply.removeprefix("is ")
+            first += count
 
     def count(self, line: str, first: int = 0) -> int:
         """How many numbers there are for a line, from 0 on, of which so many are known."""

@@ -192,6 +192,30 @@ class Files(unittest.TestCase):
         wanted = ["to.script: the 4 steps to there", "before.trace: the start before the step"]
         self.assertEqual(ends, [*wanted, "steps.svg: the last steps", "steps.html: the last steps"])
 
+    def test_the_page_opens_at_the_difference_and_shows_the_ports_side(self) -> None:
+        with tempfile.TemporaryDirectory() as folder:
+            file = Path(folder) / "steps.html"
+            file.write_text("<head>\n</head>\n<body>\n<header>\n</header>\n", encoding="utf-8")
+            about(*DREW).open_at(4, file)
+            text = file.read_text(encoding="utf-8")
+        self.assertIn('"#line=4";</script>\n</head>', text)
+        self.assertIn("the port differs.</strong> step 4: at E4 the port found open 5, the model open 0", text)
+        self.assertIn("<code>4 1 E4 tail root; wrote; open 5</code></p>", text)
+
+    def test_the_folder_loses_what_an_older_run_left_there(self) -> None:
+        with tempfile.TemporaryDirectory() as name:
+            for file in ("to.script", "steps.svg", "mine"):
+                (Path(name) / file).write_text("old", encoding="ascii")
+            port_report.emptied(Path(name))
+            self.assertEqual([path.name for path in Path(name).iterdir()], ["mine"])
+            with self.assertRaises(FileExistsError):
+                port_report.emptied(Path(name) / "mine")
+
+    def test_a_page_that_fails_says_why(self) -> None:
+        for fault, said in ((KeyError("-"), "no a.html: KeyError: '-'"), (Fault(""), "no a.html: Fault")):
+            draws = mock.Mock(side_effect=fault)
+            self.assertEqual(about(*DREW).drawn(draws, [], [[]], Path("a.html")), said)
+
     def test_the_picture_has_the_last_steps_in_question(self) -> None:
         made = about(*DREW)
         places = ["--actor", "1", "--places", "next 0.0,tail 0.0"]

@@ -86,7 +86,7 @@ class Knowledge(unittest.TestCase):
         self.assertEqual(json.loads(starts.text_of(START))["start"], START["start"])
 
     def test_segments_are_asked_for_until_one_is_missing(self) -> None:
-        for count, asked in ((0, 64), (63, 64), (64, 128), (65, 128)):
+        for count, asked in ((0, 2), (1, 2), (2, 6), (5, 6), (6, 14), (125, 126), (126, 190)):
             told = World([1, count])
             Asked(told.ask).trace()
             names = [line for line in told.asked if line.startswith("show whole 1.")]
