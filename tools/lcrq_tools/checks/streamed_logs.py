@@ -17,7 +17,7 @@ from lcrq_tools.program import TOP, script_of
 LATE, LATE_UNPROVED = 0.2, 5.0  # seconds from a record to the difference that it makes
 STARTED = 1.5  # seconds in which the tool has started, and compared what is there
 MOST_KIB = 100_000  # that the tool may hold
-CALLS, MANY = 400, 1600  # of each of four threads
+CALLS, MANY = 60, 1600  # of each of four threads
 
 
 def told_in_pipe(bench: Bench, log: list[str], at: int) -> tuple[str, float]:

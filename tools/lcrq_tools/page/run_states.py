@@ -8,6 +8,7 @@ undone steps, so trials have a run of their own, which makes the live steps of e
 
 import argparse
 import copy
+import functools
 import itertools
 from collections.abc import Iterable, Sequence
 from dataclasses import dataclass, field
@@ -107,8 +108,9 @@ def ask_steps(asked: Asked, states: list[State]) -> None:
         [f"forward {state.undone}", *(f"step {number}" for number in range(1, count + 1)), f"back {state.undone}"]
         for state, count in zip(states, counts)
     ]
+    read = functools.cache(Step.read)  # the moments of a run have most of their steps in common
     for state, count, replies in zip(states, counts, asked.ask(questions)):
-        state.steps = [*map(Step.read, replies[-count - 1: -1])]
+        state.steps = [*map(read, replies[-count - 1: -1])]
 
 
 def ask_actors(asked: Asked, states: list[State], names: list[str]) -> None:
@@ -134,7 +136,7 @@ def ask_words(asked: Asked, states: list[State]) -> None:
 
 def common_of(before: Iterable[object], after: Iterable[object]) -> int:
     """With how many equal parts two lists begin."""
-    return len([*itertools.takewhile(lambda pair: pair[0] == pair[1], zip(before, after))])
+    return len([*itertools.takewhile(lambda pair: pair[0] is pair[1] or pair[0] == pair[1], zip(before, after))])
 
 
 def moves_between(before: list[Step], after: list[Step]) -> list[str]:
