@@ -337,21 +337,20 @@ class Predictor:
 
     def step(self, actor: int, plan: Plan) -> bool:
         """Adds a step."""
-        tail, words = plan.tail, plan.words
-        if plan.makes and not self.learn(actor, plan):
+        _, asked, head, tail, names, words, word_names, makes, _, _, said, _ = plan
+        if makes and not self.learn(actor, plan):
             return False
-        if plan.names or plan.word_names:
+        if names or word_names:
             tail, words, is_known = self.filled(plan)
             if not is_known:
                 return False
-        if plan.head:
-            self.head(actor, plan.head)
-        step = self.made_by(actor, plan.asked)
+        if head:
+            self.head(actor, head)
+        step = self.made_by(actor, asked)
         self.now.tails.append(tail)
-        if not plan.said:
-            if words:
-                self.now.words[step] = words
-        else:
+        if words and not said:
+            self.now.words[step] = words
+        if said:
             self.now.calls.append((len(self.now.plans), actor, plan, step))
         return True
 

@@ -162,7 +162,7 @@ class Flow:
         self.ends = driven.stdin.fileno(), driven.stdout.fileno()
         self.seen = 0  # whole replies that are read
         for end in self.ends:
-            with contextlib.suppress(OSError):
+            with contextlib.suppress(OSError, AttributeError):  # of another system, or without the right to
                 fcntl.fcntl(end, fcntl.F_SETPIPE_SZ, AHEAD)
 
     def send(self, lines: bytes) -> None:

@@ -50,6 +50,16 @@ class Runs(unittest.TestCase):
         with replay() as made:
             self.assertEqual((made.ask(lines), made.ask([]), made.ask(["a"])), (lines, [], ["a"]))
 
+    def test_lines_that_are_written_ahead_are_replied_in_their_order(self) -> None:
+        lines = [f"show cell 0.0 {at}".encode() for at in range(30_000)]
+        with replay() as made:
+            for part in (lines[:20_000], lines[20_000:]):
+                made.send(b"".join(line + b"\n" for line in part))
+            self.assertEqual((made.take(5_000) + made.take(25_000), made.ask(["a"])), (lines, ["a"]))
+            made.send(b"end\na\n")
+            with self.assertRaisesRegex(Broken, "^the program ended"):
+                made.take(2)
+
     def test_a_program_that_ends_is_a_fault(self) -> None:
         with replay() as made:
             with self.assertRaisesRegex(Broken, "^the program ended at `end` with status 0$"):
