@@ -174,5 +174,6 @@ int main(int count, char **words) {
     log_actor = 1;
     log_all.before = log_all.after = NULL;
     while (call_dequeue());
+    log_write();
     return fflush(stdout) || ferror(stdout) ? 1 : 0;
 }

@@ -139,10 +139,23 @@ def calls_of_run(arguments: argparse.Namespace) -> Found:
 # ---- A port's log ---------------------------------------------------------------------------------
 
 
+def in_time(records: Iterable[Record]) -> list[Record]:
+    """Records in the order of their times: a call's begin is at its first stamp, another record at its second
+    one, and of equal times begins are the first. An actor's records keep their order."""
+    latest: dict[int, tuple[int, bool]] = {}
+    times: list[tuple[tuple[int, bool], int, Record]] = []
+    for record in records:
+        is_end = record.kind != "call"
+        time = max((record.after if is_end else record.stamp, is_end), latest.get(record.actor, (0, False)))
+        latest[record.actor] = time
+        times.append((time, len(times), record))
+    return [record for _, _, record in sorted(times, key=lambda row: row[:2])]
+
+
 def calls_of_records(records: Iterable[Record]) -> Iterator[Call]:
     """The calls that records begin and end, those that end first, and then what is pending."""
     running: dict[int, Call] = {}
-    for time, record in enumerate(records):
+    for time, record in enumerate(in_time(records)):
         actor = record.actor
         if record.kind == "call":
             if actor in running:

@@ -1,14 +1,18 @@
 """Compares a port of the queue with the model: replays a log of the port's accesses by the program,
 and names the first access where the two differ, with what is around it.
 
-    python3 tools/conform.py LOG.. [--ring R | --trace TRACE] [--strict] [--reuse] [--cut] [--go-on] [-o DIR]
-        [--program P]
+    python3 tools/conform.py LOG.. [--ring R | --trace TRACE] [--strict] [--reuse] [--cut] [--tries N] [--go-on]
+        [-o DIR] [--program P]
 
 The form of a log is in docs/MANUAL.md under PORTS; `-` is standard input. The logs are merged by
-their stamps as they come, and a record that agrees is forgotten. Over a fresh world with rings of R cells, 4 if left out, or over a trace, each record
-is made as a step, and what it says is compared with the replies: the control point, the place, the
-access, the answer, the reply of the call, and words of the actor. What a record leaves out is not
-compared. A run may be longer than the most live steps: it is frozen then, and goes on.
+their stamps as they come, and a record that agrees is forgotten. Over a fresh world with rings of R cells,
+4 if left out, or over a trace, each record is made as a step, and what it says is compared with the replies:
+the control point, the place, the access, the answer, the reply of the call, and words of the actor. What a
+record leaves out is not compared. A run may be longer than the most live steps: it is frozen then, and goes on.
+
+Where stamps overlap, all is read first, and an order is looked for in which all agree. The last line says whether
+there is one, or whether the search ended because it failed --tries times without getting further; it is the order
+that came furthest then whose difference is told.
 
 A log that has records of E10 has all of them; of one that has none, the choices follow from what comes
 after, unless --strict asks for them. A segment whose memory is used again while an actor, an end or a next
@@ -17,7 +21,7 @@ still has it differs, unless --reuse permits it. Where a log is cut is said at t
 The status is 0 if all agree, in one line; 1 if something differs, and then the first difference is
 told, and for a log that is cut, unless --cut permits it; 2 if a log can't be read, with the record, and
 for any other fault, Control-C and a pipe that nobody reads. With -o the folder DIR gets
-a script to there, the start before it, a picture and a page. With
+a script to there, the start before it, a picture and a page, and the order that was found as a log. With
 --go-on the port's side is taken at each difference, and all are listed, by label and kind. At the end
 come values that were put and never taken, taken more often than put, or never put, and calls that
 never ended.
@@ -37,18 +41,21 @@ from pathlib import Path
 
 from lcrq_tools import options
 from lcrq_tools.faults import FAULTS, Fault, Parser, say, text_of
-from lcrq_tools.port.port_compare import Comparison, Difference
+from lcrq_tools.port.port_compare import Comparison, Difference, Listed
 from lcrq_tools.port.port_ledger import first_of
 from lcrq_tools.port.port_log import Record, Unreadable
+from lcrq_tools.port.port_orders import Found
 from lcrq_tools.port.port_replay import Replay
 from lcrq_tools.port.port_report import About, emptied
 from lcrq_tools.port.port_rings import guesses
 from lcrq_tools.port.port_side import Side
 from lcrq_tools.port.port_stream import HasChoices, OutOfOrder, Raw, Source
+from lcrq_tools.port.port_tried import found_order, lines_of
 from lcrq_tools.program import counted
 
 MOST_AT_ONE = 4  # differences of one record whose side is taken
 SECONDS = 0.2  # between two lines of progress
+TRIES = 100_000  # that fail, before a search for an order ends that comes no further
 
 
 # ---- The command line ----------------------------------------------------------------------------
@@ -65,6 +72,8 @@ def parser() -> argparse.ArgumentParser:
     command.add_argument("--reuse", action="store_true", help=reuse)
     command.add_argument("--cut", action="store_true", help="let a log end in the middle of a record")
     command.add_argument("--go-on", action="store_true", help="take the port's side at each difference, and list all")
+    tries = f"how often a search for an order fails before it ends, without getting further: {TRIES:,} if left out"
+    command.add_argument("--tries", metavar="N", type=options.number_above_0, default=TRIES, help=tries)
     files = "the folder for the files about the first difference"
     command.add_argument("-o", dest="output", metavar="DIR", type=Path, help=files)
     options.add_program(command)
@@ -153,8 +162,8 @@ def first_difference(comparison: Comparison, progress: Progress) -> Difference |
 
 
 def compare(given: argparse.Namespace, folder: Path) -> int:
-    """Compares the logs; returns the exit status. Where it comes out late that they have to be sorted, or that
-    they have choices, it begins again."""
+    """Compares the logs; returns the exit status. Where it comes out late that they have to be sorted, that their
+    order is to be found, or that they have choices, it begins again."""
     asks = given.strict
     if given.output:
         emptied(given.output)
@@ -174,12 +183,28 @@ def compare_over(given: argparse.Namespace, folder: Path, source: Source, asks: 
         raise Unreadable("; ".join([f"{' '.join(given.logs)}: no record", *source.cuts]))
     with contextlib.closing(Replay(given.program, folder, options_of(given))) as replay:
         source.actors.limit = len(replay.states)
-        comparison = Comparison(replay, source, asks_choices=asks, permits_reuse=given.reuse)
-        is_different = compare_records(given, comparison, Progress(source.far))
+        found = order_of(given, folder, source) if source.is_open else None
+        records: Source | Listed = Listed(found.records, source.actors) if found else source
+        is_different = compare_records(given, compared(given, replay, records, asks), Progress(source.far))
     if source.cuts:
         print(f"the log is cut: {first_of(source.cuts)}")
+    sys.stdout.writelines(f"{line}\n" for line in (lines_of(found, given.tries, given.output) if found else ()))
     sys.stdout.flush()
     return 1 if is_different or source.cuts and not given.cut else 0
+
+
+def compared(given: argparse.Namespace, replay: Replay, records: Source | Listed, asks: bool) -> Comparison:
+    """A comparison of these records, at its begin."""
+    return Comparison(replay, records, asks_choices=asks, permits_reuse=given.reuse)
+
+
+def order_of(given: argparse.Namespace, folder: Path, source: Source) -> Found:
+    """The order in which the records are compared, where their stamps leave it open."""
+    progress, records = Progress(), source.whole()
+    with contextlib.closing(Replay(given.program, folder, options_of(given))) as replay:
+        found = found_order(compared(given, replay, Listed(records), given.strict), given.tries, progress)
+    progress.end()
+    return found
 
 
 def compare_records(given: argparse.Namespace, comparison: Comparison, progress: Progress) -> bool:

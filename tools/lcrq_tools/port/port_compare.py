@@ -42,8 +42,8 @@ class Difference:
 class Listed:
     """Records that are all known."""
 
-    def __init__(self, records: list[Record]):
-        self.all, self.at, self.actors = records, 0, Actors()
+    def __init__(self, records: list[Record], actors: Actors | None = None):
+        self.all, self.at, self.actors = records, 0, actors or Actors()
         self.has_choices = any(record.choice for record in records)
 
     def take(self, most: int) -> list[Record]:

@@ -1,14 +1,14 @@
 """Reads the log of a port's accesses for `conform.py`, in the form that docs/MANUAL.md has under PORTS: its
 records, merged by their stamps, and what they say in the program's words.
 
-A record is a line `STAMP ACTOR WHAT`: a call, a step with its label or its place, or a reply.
+A record is a line `STAMP ACTOR WHAT`: a call, a step with its label or its place, or a reply. Its stamp may be
+two, `BEFORE-AFTER`; the records are then in the order of the first ones.
 Segments may have any names; `Names` learns which segment of the model each of them is.
 """
 
 import contextlib
 import functools
 import io
-import itertools
 import re
 import sys
 from collections.abc import Collection, Iterator, Sequence
@@ -24,6 +24,7 @@ MOST_NUMBER = 2**64 - 1
 MOST_NAMES = 10_000  # of segments, of which most are out of use
 MOST_LETTERS = 1000  # of a word; Python reads no number of some thousand digits
 SHOWN_LETTERS = 100  # of a record that can't be read
+NO_RECORD = "a record is a stamp, which is a whole number, or two as 3-5, an actor, and what it did"
 BYTE_ORDER_MARKS = ("\ufeff", "\ufffd\ufffd")  # of UTF-8, and how one of UTF-16 comes through
 
 ACCESSES = ("read", "wrote", "wrote index")
@@ -56,6 +57,7 @@ class Record:
     answer: tuple[str, ...] = ()
     reply: tuple[str, ...] = ()
     words: tuple[str, ...] = ()  # words of the actor, each with its value after it
+    after: int = 0  # the second stamp, which is the first where there is one
 
     def line(self) -> str:
         """The line of a script that makes this call or step."""
@@ -179,6 +181,17 @@ def read_step(record: Record, words: list[str], parts: list[list[str]], labels: 
     return read_tail(record, parts)
 
 
+def stamps_of(word: str) -> tuple[int, int]:
+    """The two stamps of a record."""
+    before, between, after = word.partition("-")
+    if not before.isdecimal() or between and not after.isdecimal():
+        raise Unreadable(NO_RECORD)
+    stamps = int(before), int(after or before)
+    if stamps[1] < stamps[0]:
+        raise Unreadable(f"the stamp after it, {after}, is before the one before it, {before}")
+    return stamps
+
+
 def record_of(where: str, text: str, labels: set[str]) -> Record:
     """The record of a line."""
     first, *parts = (part.split() for part in text.split(";"))
@@ -186,9 +199,10 @@ def record_of(where: str, text: str, labels: set[str]) -> Record:
         raise Unreadable("a byte-order mark comes before it: a log is plain UTF-8")
     if long := next((word for part in (first, *parts) for word in part if len(word) > MOST_LETTERS), ""):
         raise Unreadable(f"a word of it has {len(long):,} letters, and may have {MOST_LETTERS:,}")
-    if len(first) < 3 or not first[0].isdecimal():
-        raise Unreadable("a record is a stamp, which is a whole number, an actor, and what it did")
-    record, words = Record(int(first[0]), first[1], where, text), first[2:]
+    if len(first) < 3:
+        raise Unreadable(NO_RECORD)
+    before, after = stamps_of(first[0])
+    record, words = Record(before, first[1], where, text, after=after), first[2:]
     if words[0] in CALLS:
         read_call(record, words)
     elif words[0] in labels or words[0] in (NOTHING, "starve") or is_place(words):
@@ -238,13 +252,6 @@ def records_of(name: str, labels: set[str], cuts: list[str]) -> Iterator[Record]
             yield record_of(where, text, labels)
 
 
-def check_order(records: list[Record]) -> None:
-    """That no two actors share a stamp: their order would be anybody's guess."""
-    for first, then in itertools.pairwise(records):
-        if first.stamp == then.stamp and first.name != then.name:
-            raise Unreadable(f"{then.where}: `{then.text}`: {first.where} has the same stamp, by another actor")
-
-
 def number_actors(records: list[Record]) -> list[str]:
     """Gives each record the model's number of its actor. Returns the names of the actors, the first
     that of actor 1; none where the log has the numbers 1 to 16 already."""
@@ -269,7 +276,6 @@ def read_logs(names: list[str]) -> Logs:
     if not records:
         raise Unreadable("; ".join([f"{' '.join(names)}: no record", *cuts]))
     records.sort(key=lambda record: record.stamp)
-    check_order(records)
     return Logs(records, number_actors(records), cuts)
 
 

@@ -86,7 +86,16 @@ class Steps(Sequence[Made]):
 
     def since_start(self) -> Iterator[Made]:
         """The steps since the start."""
-        return map(self.__getitem__, range(self.before, len(self)))
+        return self.behind(self.before)
+
+    def behind(self, count: int) -> Iterator[Made]:
+        """The steps behind the first ones, which are so many."""
+        return map(self.__getitem__, range(count, len(self)))
+
+    def cut(self, count: int) -> None:
+        """Forgets the steps behind the first ones, which are so many."""
+        here = count - self.before
+        del self.actors[here:], self.made[here:], self.stands[here:]
 
     def numbers(self) -> Iterator[int]:
         """The numbers of the known steps, the last first."""
@@ -301,9 +310,8 @@ class Replay:
     def drop(self, state: Actor) -> None:
         """Takes the last step back, before which its actor was so."""
         self.ask(["back 1"])
-        self.states[self.steps.actors.pop() - 1] = state
-        self.steps.made.pop()
-        self.steps.stands.pop()
+        self.states[self.steps.actors[-1] - 1] = state
+        self.steps.cut(len(self.steps) - 1)
 
     def start(self) -> Trace:
         """The world as a start."""

@@ -1,11 +1,14 @@
 """Reads the logs of a port for `conform.py` as they come: merges them by their stamps, a piece at a time, and keeps
 no record that was taken.
 
-A record is raw here: its stamp, where it is, and its line as bytes. `port_log.py` has the grammar of a line.
-Stamps of a log that go down raise `OutOfOrder`; after `sort`, all of the logs is read first.
+A record is raw here: its first stamp, where it is, and its line as bytes. `port_log.py` has the grammar of a line.
+Stamps of a log that go down raise `OutOfOrder`, and such of two actors that meet `Open`; after `again`, all of the
+logs is read first.
 """
 
 import bisect
+import contextlib
+import copy
 import itertools
 import operator
 import os
@@ -20,13 +23,15 @@ from lcrq_tools.faults import Fault
 from lcrq_tools.options import MOST_ACTORS
 from lcrq_tools.port.port_log import Record, Unreadable, label_names, record_of, shown
 
-Raw = tuple[int, int, bytes]  # a record: its stamp, the number of its file and line, and its line
+Raw = tuple[int, int, bytes]  # a record: its first stamp, the number of its file and line, and its line
 LINES = 1 << 40  # more than a file has
 PIECE = 1 << 17  # bytes that are read at a time
+MOST = 1 << 14  # records that are looked at, at a time
 AGAIN = 1 << 20  # bytes of a pipe that can be read again
 EARLY = 10_000  # records from the first on that are kept
 
 STAMPS = re.compile(rb"^[0-9]{1,30}(?= )", re.MULTILINE)
+PAIRS = re.compile(rb"^([0-9]{1,30})-([0-9]{1,30})(?= )", re.MULTILINE)
 USUAL = bytes([*range(0x20, 0x7F), 10])  # bytes
 ENDS = (b" ", b";")  # of a line that is looked at by itself
 CHOICE = re.compile(rb"^\S+\s+\S+\s+(?:E10|starve)\s", re.MULTILINE)
@@ -37,6 +42,10 @@ class OutOfOrder(Fault):
     """A log whose stamps go down."""
 
 
+class Open(OutOfOrder):
+    """Logs in which stamps of two actors meet, so that the order of their records has to be found."""
+
+
 class HasChoices(Fault):
     """A log that has a choice at E10, and left one out before."""
 
@@ -44,6 +53,14 @@ class HasChoices(Fault):
 def goes_up(stamps: Sequence[int]) -> bool:
     """Whether no stamp is below the one before it."""
     return all(map(operator.le, stamps, stamps[1:]))
+
+
+def end_of(raw: Raw) -> int:
+    """The second stamp of a record, or the only one; -1 of none."""
+    if not raw[2]:
+        return -1
+    before, _, after = raw[2].split(None, 1)[0].decode("utf-8").partition("-")
+    return int(after or before)
 
 
 # ---- One log -------------------------------------------------------------------------------------
@@ -60,6 +77,8 @@ class Log:
         self.begun: list[bytes] = []  # the first pieces of a pipe
         self.pieces: Iterator[bytes] = iter(())  # that are read again
         self.is_sorted = True  # so stamps that go down are a fault
+        self.has_two = False  # whether records with two stamps were read
+        self.is_held = True  # whether all that was read can be read again
         self.begin()
 
     def begin(self) -> None:
@@ -74,7 +93,7 @@ class Log:
         """Begins again."""
         if self.is_file:
             self.file.seek(0)
-        elif self.read_bytes > AGAIN:
+        elif not self.is_held or self.read_bytes > AGAIN and not self.has_two:
             raise Unreadable(f"{why}: no pipe is read twice, so compare it as a file") from why
         self.pieces = iter([*self.begun])
         self.begin()
@@ -83,12 +102,21 @@ class Log:
         """Whether it can be read without waiting."""
         return self.is_file or bool(select.select([self.file], [], [], 0)[0])
 
+    def ahead(self) -> "Log":
+        """The log from here on, to look at; of a pipe only what is read, which is all if it has two stamps."""
+        while self.has_two and not self.is_file and not self.is_over:
+            self.fill()
+        other = copy.copy(self)
+        other.ready, other.cuts, other.is_over = [*self.ready], [], self.is_over or not self.is_file
+        return other
+
     def piece(self) -> bytes:
-        """Its next piece."""
+        """Its next piece. Of a pipe with two stamps all is held, since they may meet."""
         piece = next(self.pieces, b"")
         if not piece:
             piece = os.read(self.file.fileno(), PIECE)
-            self.begun += [piece] * (not self.is_file and self.read_bytes <= AGAIN)
+            self.is_held = self.is_held and (self.has_two or self.read_bytes <= AGAIN)
+            self.begun += [piece] * (not self.is_file and self.is_held)
         self.read_bytes += len(piece)
         return piece
 
@@ -115,17 +143,28 @@ class Log:
 
     def add(self, whole: bytes) -> None:
         """Adds the records of whole lines."""
-        lines, stamps, first = whole.split(b"\n"), STAMPS.findall(whole), self.order + 1
+        lines, first = whole.split(b"\n"), self.order + 1
         self.order += len(lines)
-        is_usual = len(stamps) == len(lines) and not whole.translate(None, USUAL) and not whole.endswith(ENDS)
-        is_usual = is_usual and not any(end + b"\n" in whole for end in ENDS)
-        usual = zip(map(int, stamps), itertools.count(first), lines)
-        raws = [*(usual if is_usual else self.one_by_one(lines, first))]
+        stamps = self.stamps(whole, len(lines))
+        raws = [*(zip(stamps, itertools.count(first), lines) if stamps else self.one_by_one(lines, first))]
         order = [self.last, *map(STAMP, raws)]
         if self.is_sorted and not goes_up(order):
             raise OutOfOrder(f"{self.where}: its stamps go down behind line {first % LINES}")  # and are sorted
         self.last = order[-1]
         self.ready += raws
+
+    def stamps(self, whole: bytes, count: int) -> list[int]:
+        """The first stamps of so many whole lines; none if one of these is unusual."""
+        if whole.translate(None, USUAL) or whole.endswith(ENDS) or any(end + b"\n" in whole for end in ENDS):
+            return []
+        stamps = [*map(int, STAMPS.findall(whole))]
+        if len(stamps) == count:
+            return stamps
+        pairs = [(int(before), int(after)) for before, after in PAIRS.findall(whole)]
+        if len(pairs) < count or any(after < before for before, after in pairs):
+            return []
+        self.has_two = True
+        return [before for before, _ in pairs]
 
     def one_by_one(self, lines: Sequence[bytes], first: int) -> Iterator[Raw]:
         """The records of lines, of which some are unusual."""
@@ -136,20 +175,9 @@ class Log:
             if text.endswith(";"):
                 self.cuts.append(f"{self.place(order)} ends behind a `;`")
             with shown(self.place(order), text):
-                yield record_of(self.place(order), text, label_names()).stamp, order, text.encode()
-
-    def check_rest(self, *, has_choices: bool) -> None:
-        """That the stamps of a file go up to its end, and that no choice comes, unless the log has choices."""
-        at, last, rest = self.read_bytes, self.last, self.rest
-        while piece := os.pread(self.file.fileno(), PIECE, at):
-            at += len(piece)
-            whole, _, rest = (rest + piece).rpartition(b"\n")
-            stamps = [last, *map(int, STAMPS.findall(whole))]
-            if self.is_sorted and not goes_up(stamps):
-                raise OutOfOrder(f"{self.where}: its stamps go down")
-            if not has_choices and CHOICE.search(whole):
-                raise HasChoices(f"{self.where} has records of E10, and left one out before")
-            last = stamps[-1]
+                record = record_of(self.place(order), text, label_names())
+            self.has_two |= record.after > record.stamp
+            yield record.stamp, order, text.encode()
 
 
 # ---- All logs ------------------------------------------------------------------------------------
@@ -200,7 +228,9 @@ class Source:
         self.names, self.cuts = names, list[str]()  # where a log is cut, and what that is
         self.logs = [Log(name, number, self.cuts) for number, name in enumerate(names)]
         self.labels = label_names()
-        self.sorted: Iterator[Raw] | None = None  # all records, where they have to be sorted
+        self.all: list[Raw] = []  # all records, where they were sorted
+        self.sorted: Iterator[Raw] | None = None  # those of them that come
+        self.is_open = False  # whether the order of records whose stamps meet is to be found
         self.begin()
 
     def begin(self) -> None:
@@ -208,17 +238,20 @@ class Source:
         self.early: list[Raw] = []  # the first ones
         self.put_back: list[Raw] = []  # which were taken, and are not compared
         self.taken: list[Raw] = []  # the last ones, with all their parts
-        self.last: Raw = (-1, 0, b"")
+        self.last: Raw = (-1, 0, b"")  # the one of those taken that ends last
+        self.may_meet = self.is_open  # stamps of two actors
         self.actors = Actors()
 
     def again(self, why: Fault) -> None:
-        """Begins again, and sorts all records if their stamps go down."""
-        self.cuts.clear()
+        """Begins again, and sorts all records if their stamps go down or meet."""
+        self.is_open |= isinstance(why, Open)
         self.begin()
         is_sorted = not self.sorted and not isinstance(why, OutOfOrder)
-        for log in self.logs:
+        for log in self.logs if not self.all else ():
             log.is_sorted = is_sorted
             log.again(why)
+        if not self.all:
+            self.cuts.clear()
         self.sorted = None if is_sorted else self.all_sorted()
 
     def all_sorted(self) -> Iterator[Raw]:
@@ -226,10 +259,18 @@ class Source:
         for log in self.logs:
             while not log.is_over:
                 log.fill()
-        raws = sorted(itertools.chain.from_iterable(log.ready for log in self.logs))
+        self.all = self.all or sorted(itertools.chain.from_iterable(log.ready for log in self.logs))
         for log in self.logs:
             log.ready = []
-        yield from raws
+        self.check_stamps(self.all)
+        yield from self.all
+
+    def whole(self) -> list[Record]:
+        """All records with all their parts."""
+        raws: list[Raw] = []
+        while more := self.some(MOST):
+            raws += more
+        return [*map(self.record, raws)]
 
     def close(self) -> None:
         """Closes the logs."""
@@ -284,7 +325,8 @@ class Source:
             if log.is_over or not waits and not log.has_more():
                 return []
             log.fill()
-        self.check_stamps(taken)
+        if not self.sorted:
+            self.check_stamps(taken)
         self.early += taken[: EARLY - len(self.early)]
         return taken
 
@@ -304,22 +346,30 @@ class Source:
         self.put_back = raws + self.put_back
 
     def check_stamps(self, raws: list[Raw]) -> None:
-        """That no two actors share a stamp: their order would be anybody's guess."""
-        if len({self.last[0], *map(STAMP, raws)}) <= len(raws):
-            for first, then in itertools.pairwise([self.last, *raws]):
-                if first[0] == then[0] and first[2].split()[1] != then[2].split()[1]:
-                    same = f"{self.where(first)} has the same stamp, by another actor"
-                    raise Unreadable(f"{self.where(then)}: `{then[2].decode('utf-8', 'replace')}`: {same}")
-        self.last = raws[-1] if raws else self.last
+        """That no stamps of two actors meet, unless they may."""
+        has_two = any(log.has_two for log in self.logs)
+        if self.may_meet or not has_two and len({self.last[0], *map(STAMP, raws)}) > len(raws):
+            self.last = raws[-1] if raws else self.last
+            return
+        for raw in raws:
+            if raw[0] <= end_of(self.last) and raw[2].split()[1] != self.last[2].split()[1]:
+                raise Open(f"{self.where(raw)}: its stamp meets that of {self.where(self.last)}, by another actor")
+            self.last = max(self.last, raw, key=end_of)
 
     def check_rest(self, *, has_choices: bool) -> None:
-        """That the stamps of the files go up to their ends, and that no choice comes, unless the log has choices."""
-        known = itertools.chain(self.put_back, *(log.ready for log in self.logs))
-        if not has_choices and any(CHOICE.match(raw[2]) for raw in known):
-            raise HasChoices("the log has records of E10, and left one out before")
+        """That nothing in the rest of the logs makes them begin again: stamps that go down or meet, and choices, unless
+        they have choices. Of a pipe, only what is read is looked at; what comes then may meet."""
+        rest = copy.copy(self)
+        rest.logs, rest.early = [log.ahead() for log in self.logs], []
+        rest.sorted = iter(self.all) if self.sorted else None
+        with contextlib.suppress(Unreadable):  # it is compared up to there
+            while raws := rest.some(MOST):
+                if not has_choices and CHOICE.search(b"\n".join(raw[2] for raw in raws)):
+                    raise HasChoices("the log has records of E10, and left one out before")
         for log in self.logs:
             if log.is_file:
-                log.check_rest(has_choices=has_choices)
+                log.file.seek(log.read_bytes)
+        self.may_meet = True
 
     def far(self) -> float:
         """Which part of the logs is read; 0 where it isn't known."""

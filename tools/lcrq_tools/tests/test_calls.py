@@ -12,6 +12,7 @@ from lcrq_tools.calls.culprits import culprits_of
 from lcrq_tools.calls.intervals import Call, calls_of_steps
 from lcrq_tools.calls.search import TooMany, searched
 from lcrq_tools.records import Step
+from lcrq_tools.tests.replay_stub import records_of
 from lcrq_tools.tests.stubs import NO_PROGRAM, told
 
 SVG = "{http://www.w3.org/2000/svg}"
@@ -57,6 +58,11 @@ class Intervals(unittest.TestCase):
         status, output, errors = told_of(log)
         self.assertEqual((status, errors, output.count("\n")), (0, "", 2))
         self.assertIn("actor 1: deq, value 7", output)
+
+    def test_a_call_of_a_log_lasts_from_its_first_stamp_to_its_last(self) -> None:
+        texts = ("1-3 1 enq 7", "2 2 deq", "4-9 1 enqueued", "5-6 2 value 7", "9 2 deq", "9 2 empty")
+        calls = [*intervals.calls_of_records(records_of(*texts))]
+        self.assertEqual([(call.actor, call.begin, call.end) for call in calls], [(2, 1, 2), (1, 0, 4), (2, 3, 5)])
 
     def test_faults_have_status_2(self) -> None:
         for log, said in (

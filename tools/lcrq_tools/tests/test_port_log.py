@@ -104,9 +104,17 @@ class Merged(unittest.TestCase):
         with self.assertRaisesRegex(Unreadable, r"0\.log:2: `2 a nowhere 1`: no call, label, place or reply"):
             self.read("1 a deq\n2 a nowhere 1\n")
 
-    def test_two_actors_share_no_stamp(self) -> None:
-        with self.assertRaisesRegex(Unreadable, r"1\.log:1: `1 b deq`: .*0\.log:1 has the same stamp"):
-            self.read("1 a deq\n", "1 b deq\n")
+    def test_two_actors_may_share_a_stamp(self) -> None:
+        logs = self.read("1 1 deq\n1 1 Q1\n", "1 2 deq\n")
+        self.assertEqual([(it.actor, it.text) for it in logs.records], [(1, "1 1 deq"), (1, "1 1 Q1"), (2, "1 2 deq")])
+
+    def test_a_stamp_may_be_two(self) -> None:
+        logs = self.read("5-9 1 deq\n", "3-20 2 deq\n4 2 Q1\n")
+        self.assertEqual([(it.stamp, it.after) for it in logs.records], [(3, 20), (4, 4), (5, 9)])
+        for stamp in ("9-5", "5-", "-5", "5-6-7", "5-x", "5--6"):
+            said = "the stamp after it, 5, is before the one before it, 9" if stamp == "9-5" else "a record is a stamp"
+            with self.subTest(stamp), self.assertRaisesRegex(Unreadable, said):
+                record(f"{stamp} 1 deq")
 
     def test_a_world_has_sixteen_actors(self) -> None:
         with self.assertRaisesRegex(Unreadable, "^the logs have 17 actors, and a world has 16 at most$"):

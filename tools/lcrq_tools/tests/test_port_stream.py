@@ -11,7 +11,7 @@ from unittest import mock
 
 from lcrq_tools.port import port_stream
 from lcrq_tools.port.port_log import Unreadable
-from lcrq_tools.port.port_stream import Actors, HasChoices, OutOfOrder, Source
+from lcrq_tools.port.port_stream import Actors, HasChoices, Open, OutOfOrder, Source
 
 
 @contextlib.contextmanager
@@ -58,11 +58,20 @@ class Pieces(unittest.TestCase):
             self.assertEqual(cuts, [":4 ends behind a `;`", ":6 has no line feed and is not compared"])
             self.assertEqual(records[1].where[-2:], ":4")
 
-    def test_two_actors_share_no_stamp(self) -> None:
-        with source(b"1 a deq\n1 a Q1 p\n", b"2 b deq\n") as made:
-            self.assertEqual(stamps(made), [1, 1, 2])
-        with source(b"1 a deq\n3 a Q1 p\n", b"3 b deq\n") as made, self.assertRaisesRegex(Unreadable, "same stamp"):
-            stamps(made, 1)
+    def test_stamps_of_two_actors_do_not_meet(self) -> None:
+        rows: list[tuple[tuple[bytes, ...], str]] = [
+            ((b"1 a deq\n1 a Q1 p\n", b"2 b deq\n"), ""),
+            ((b"1 a deq\n3 a Q1 p\n", b"3 b deq\n"), "1.log:1: its stamp meets that of .*0.log:2, by another actor"),
+            ((b"1-4 a deq\n2-3 a Q1 p\n", b"5-9 b deq\n"), ""),
+            ((b"1-4 a deq\n2-3 a Q1 p\n", b"4-9 b deq\n"), "1.log:1: its stamp meets that of .*0.log:1"),
+            ((b"1 a deq\n2 a Q1 p\n2-9 a Q2 0\n10 b deq\n",), ""), ((b"1-3 a deq\n2 b deq\n",), "0.log:2: its"),
+        ]
+        for logs, said in rows:
+            for most in (1, 2, 9):
+                with self.subTest(logs), source(*logs) as made:
+                    raises: contextlib.AbstractContextManager[object] = contextlib.nullcontext()
+                    with self.assertRaisesRegex(Open, said) if said else raises:
+                        stamps(made, most)
 
     def test_a_pipe_gives_what_it_has(self) -> None:
         read, write = os.pipe()
@@ -97,11 +106,52 @@ class Again(unittest.TestCase):
             with self.assertRaises(OutOfOrder):
                 made.check_rest(has_choices=True)
 
+    def test_stamps_that_meet_may_do_so_when_an_order_is_to_be_found(self) -> None:
+        for logs in ((b"1-9 a deq\n2 b deq\n",), (b"3 b Q1 p\n2 b deq\n", b"1-9 a deq\n")):
+            with source(*logs) as made:
+                while not made.is_open:
+                    try:
+                        stamps(made)
+                    except OutOfOrder as fault:
+                        made.again(fault)
+                found = [(it.stamp, it.after, it.actor) for it in made.whole()]
+                self.assertEqual(found, [(1, 9, 1), (2, 2, 2), (3, 3, 2)][: len(found)])
+
+    def test_stamps_that_meet_in_the_rest_are_found_before_a_difference_is_told(self) -> None:
+        for rest in (b"5 a Q3 1\n5 b deq\n", b"5-9 a Q3 1\n6-7 b deq\n"):
+            with mock.patch.object(port_stream, "PIECE", 10), source(b"1 a deq\n2 a Q1 p\n" + rest) as made:
+                made.some(1)
+                with self.assertRaises(Open):
+                    made.check_rest(has_choices=True)
+                self.assertEqual((made.logs[0].has_two, made.cuts), (False, []))
+
+    def test_the_rest_is_as_before_when_it_was_looked_at(self) -> None:
+        logs = b"1 a deq\n2 a Q1 p\n", b"3 b deq\n4 b Q1 p\n"
+        with mock.patch.object(port_stream, "PIECE", 10), source(*logs) as made:
+            made.some(1)
+            made.check_rest(has_choices=False)
+            self.assertEqual(stamps(made), [2, 3, 4])
+
+    def test_a_pipe_with_two_stamps_is_held(self) -> None:
+        log = b"1-2 a deq\n3-4 a Q1 p\n5-6 a Q2 0\n6-7 b deq\n"
+        with mock.patch.multiple(port_stream, PIECE=11, AGAIN=3), source(log) as made:
+            made.logs[0].is_file = False
+            with self.assertRaises(Open) as raised:
+                stamps(made, 1)
+            made.again(raised.exception)
+            self.assertEqual(stamps(made), [1, 3, 5, 6])
+        with mock.patch.multiple(port_stream, PIECE=11, AGAIN=3), source(log.replace(b"-2", b"")) as made:
+            made.logs[0].is_file = False
+            with self.assertRaises(Open) as raised:
+                stamps(made, 1)
+            with self.assertRaisesRegex(Unreadable, "no pipe is read twice"):
+                made.again(raised.exception)
+
     def test_only_the_begin_of_a_pipe_is_read_again(self) -> None:
         with source(b"1 a deq\n2 a Q1 p\n") as made:
             made.logs[0].is_file = False
             made.some(1)
-            made.again(OutOfOrder("down"))
+            made.again(HasChoices("late"))
             self.assertEqual(stamps(made), [1, 2])
             refuses = self.assertRaisesRegex(Unreadable, "down: no pipe is read")
             with mock.patch.object(port_stream, "AGAIN", 3), refuses:
