@@ -1,12 +1,12 @@
 // Calls of the queue by several threads, whose accesses are logged on standard output.
 //
-//     lcrq [--threads N] [--calls N] [--ring R] [--seed S] [--turns]
+//     lcrq [--threads N] [--calls N] [--ring R] [--seed S] [--turns] [--keep] [--cell]
 //
 // Each of N threads (4) makes N calls (40), enqueues and dequeues as the seed (1) draws them, over
 // rings of R cells (4). Call 7 of thread 2 enqueues 702, and again where that failed. The threads run
 // freely, and yield after some accesses; with --turns they make one access at a time, in an order
 // that the seed draws, so the same seed gives the same log. When all are done, thread 1 dequeues
-// until the queue is empty.
+// until the queue is empty. --keep keeps rings that could not be linked, --cell reads whole cells.
 
 #include <sched.h>
 #include <stdint.h>
@@ -138,11 +138,10 @@ static long option(const char *word, const char *text, long least, long most) {
 static void read_options(char **words) {
     for (; *words; words++) {
         char *word = *words;
-        if (!strcmp(word, "--turns")) {
-            in_turns = true;
-            continue;
-        }
-        if (!strcmp(word, "--threads")) threads = option(word, *++words, 1, MOST_THREADS);
+        if (!strcmp(word, "--turns")) in_turns = true;
+        else if (!strcmp(word, "--keep")) keeps_rings = true;
+        else if (!strcmp(word, "--cell")) reads_cells = true;
+        else if (!strcmp(word, "--threads")) threads = option(word, *++words, 1, MOST_THREADS);
         else if (!strcmp(word, "--calls")) calls = option(word, *++words, 1, 999999);
         else if (!strcmp(word, "--ring")) ring_cells = (unsigned long)option(word, *++words, 1, 64);
         else if (!strcmp(word, "--seed")) seed = option(word, *++words, 0, 1000000000);

@@ -2,7 +2,8 @@
 // this label, which makes its one access.
 //
 // It needs a 16-byte compare-and-swap (-mcx16 on x86-64). A ring is never given back: there is no
-// reclamation here. -DBUG=n plants one of four bugs, for tools/conform.py to find.
+// reclamation here. -DBUG=n plants one of four bugs, for tools/conform.py to find; `keeps_rings` and
+// `reads_cells` are deviations that are meant, which keep.allow and cell.allow name for it.
 
 #include <stdint.h>
 #include <stdlib.h>
@@ -35,6 +36,9 @@ struct ring {
 
 unsigned long ring_cells = 4;
 bool (*starving)(void);
+bool keeps_rings, reads_cells;
+
+static _Thread_local struct ring *kept; // that this thread could not link
 
 #define LOAD(at) __atomic_load_n(at, __ATOMIC_SEQ_CST)
 #define ADD(at) __atomic_fetch_add(at, 1, __ATOMIC_SEQ_CST)
@@ -46,6 +50,11 @@ static bool cas2(union cell *at, bool safe, unsigned long index, unsigned long v
     union cell old = {{value, index | (safe ? TOP : 0)}};
     union cell new = {{new_value, new_index | (new_safe ? TOP : 0)}};
     return __sync_bool_compare_and_swap(&at->both, old.both, new.both);
+}
+
+// Both halves of a cell. A compare-and-swap that changes nothing is a load of 16 bytes.
+static union cell load_cell(union cell *at) {
+    return (union cell){.both = __sync_val_compare_and_swap(&at->both, 0, 0)};
 }
 
 // A value as a record has it.
@@ -72,6 +81,14 @@ static struct ring *make_ring_with(unsigned long x) {
     return made;
 }
 
+// The ring that this thread kept, holding x in cell 0.
+static struct ring *take_kept_with(unsigned long x) {
+    struct ring *taken = kept;
+    kept = NULL;
+    taken->cells[0].value = x;
+    return taken;
+}
+
 void open_queue(struct queue *queue) {
     queue->head = queue->tail = make_ring();
 }
@@ -91,8 +108,14 @@ e4: STEP(tail = ADD(&crq->tail), "E4 %s %lu", STATE(tail), COUNT(tail));
     if (tail & TOP) goto e12;
     t = tail;
     cell = &crq->cells[t % ring_cells];
-    STEP(val = LOAD(&cell->value), "E5 %s", shown(val));
-    STEP(index = LOAD(&cell->index), "E6 %d %lu; t %lu", index >= TOP, COUNT(index), t);
+    if (reads_cells) {
+        union cell whole;
+        STEP((whole = load_cell(cell), val = whole.value, index = whole.index), "E5 %d %lu %s; t %lu", index >= TOP,
+             COUNT(index), shown(val), t);
+    } else {
+        STEP(val = LOAD(&cell->value), "E5 %s", shown(val));
+        STEP(index = LOAD(&cell->index), "E6 %d %lu; t %lu", index >= TOP, COUNT(index), t);
+    }
     if (val != NONE || COUNT(index) > t) goto e9;
     if (index & TOP || BUG == UNSAFE_IGNORED) goto e8;
     STEP(h = LOAD(&crq->head), "E7 %lu", h);
@@ -106,8 +129,10 @@ e9: STEP(h = LOAD(&crq->head), "E9 %lu", h);
 e11:
     STEP(tail = CLOSE(&crq->tail), "E11 was %s", STATE(tail));
 e12:
-    STEP(new = make_ring_with(x), "E12 made %p", (void *)new);
+    if (kept) new = take_kept_with(x);
+    else STEP(new = make_ring_with(x), "E12 made %p", (void *)new);
     STEP(won = CAS(&crq->next, NULL, new), "E13 %s", WON(won));
+    if (!won && keeps_rings) kept = new;
     if (!won) goto e1;
     STEP(won = CAS(&queue->tail, crq, new), "E14 %s", WON(won));
     return BUG == LOST_RACE_FAILS ? won : true;

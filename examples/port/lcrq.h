@@ -15,6 +15,10 @@ struct queue {
 extern unsigned long ring_cells;
 extern bool (*starving)(void);
 
+// What the port does in another way than the pseudo-code, on purpose: a thread keeps the ring that it
+// could not link, for its next enqueue that needs one; and an enqueue reads a whole cell at once.
+extern bool keeps_rings, reads_cells;
+
 void open_queue(struct queue *queue);
 bool enqueue(struct queue *queue, unsigned long x); // always true
 unsigned long dequeue(struct queue *queue);         // NONE where the queue is empty

@@ -16,6 +16,8 @@ kind of run that needs them says `skipped`.
 - The form without labels, logs in parts, names of threads, logs from a pipe, and logs of more than
   65,535 steps; and lines that can't be read.
 - A difference in a pipe is said at once; memory does not grow; the folder of -o is looked at first.
+- Runs that do two things in another way on purpose agree with --allow, differ without it, and a
+  change in one of their logs is found.
 - 8 runs of four threads without a lock, whose stamps are the processor's, agree in the order found.
 - Logs of 200 random runs whose stamps are blurred agree in the order found, and 20 with a bug that no
   order excuses differ, as `open_logs.py` finds by brute force.
@@ -35,7 +37,8 @@ from pathlib import Path
 from typing import Any
 
 from lcrq_tools import model, program
-from lcrq_tools.checks import changed_logs, open_logs, planted_logs, streamed_logs
+from lcrq_tools.checks import allowed_logs, changed_logs, open_logs, planted_logs, streamed_logs
+from lcrq_tools.checks.allowed_logs import FILES
 from lcrq_tools.checks.port_runs import RINGS, Bench, Report, agrees, differs, steps_with
 from lcrq_tools.port.port_log import Record
 from lcrq_tools.port.port_orders import open_records
@@ -105,6 +108,10 @@ def hardware_runs(bench: Bench) -> Iterator[tuple[str, str]]:
         fault = fault or found and f"seed {seed}: {found}"
     name = f"{HARDWARE} runs of four threads with the processor's stamps"
     yield f"{name}: {overlap:,} of {count:,} records overlap others", fault
+    file = bench.folder / "hardware.allow"
+    file.write_text("".join(path.read_text(encoding="ascii") for path in FILES.values()), encoding="ascii")
+    log = bench.log_of("lcrq-hardware", "--ring", 2, *FILES)
+    yield "one more, with all that --allow may name", agrees(bench.compare(log, "--ring", 2, "--allow", file))
 
 
 # ---- Bugs ----------------------------------------------------------------------------------------
@@ -230,6 +237,7 @@ OF_THE_PORT: dict[str, Callable[[Bench], Iterator[tuple[str, str]]]] = {
     "runs of each bug": bug_runs,
     "changed logs": changed_logs.change_runs,
     "planted logs": planted_logs.planted_runs,
+    "differences that are meant": allowed_logs.allowed_runs,
     "other forms of logs": changed_logs.form_runs,
     "logs that come slowly": streamed_logs.streamed_runs,
     "logs of more than 65,535 steps": changed_logs.long_runs,

@@ -1,8 +1,8 @@
 """Compares a port of the queue with the model: replays a log of the port's accesses by the program,
 and names the first access where the two differ, with what is around it.
 
-    python3 tools/conform.py LOG.. [--ring R | --trace TRACE] [--strict] [--reuse] [--cut] [--tries N] [--go-on]
-        [-o DIR] [--program P]
+    python3 tools/conform.py LOG.. [--ring R | --trace TRACE] [--strict] [--reuse] [--cut] [--allow FILE]
+        [--tries N] [--go-on] [-o DIR] [--program P]
 
 The form of a log is in docs/MANUAL.md under PORTS; `-` is standard input. The logs are merged by
 their stamps as they come, and a record that agrees is forgotten. Over a fresh world with rings of R cells,
@@ -17,6 +17,10 @@ that came furthest then whose difference is told.
 A log that has records of E10 has all of them; of one that has none, the choices follow from what comes
 after, unless --strict asks for them. A segment whose memory is used again while an actor, an end or a next
 still has it differs, unless --reuse permits it. Where a log is cut is said at the end.
+
+Differences that are meant are lines `LABEL WHAT: WHY` of --allow FILE: the model follows the port there, and the
+last line counts how often. WHAT is `reuses its own unlinked ring` at E12, `reads the whole cell` at E5 or Q3, or
+what the report says after `the port`, such as `is at E8`; the last is followed in no search for an order.
 
 The status is 0 if all agree, in one line; 1 if something differs, and then the first difference is
 told, and for a log that is cut, unless --cut permits it; 2 if a log can't be read, with the record, and
@@ -41,7 +45,8 @@ from pathlib import Path
 
 from lcrq_tools import options
 from lcrq_tools.faults import FAULTS, Fault, Parser, say, text_of
-from lcrq_tools.port.port_compare import Comparison, Difference, Listed
+from lcrq_tools.port.port_allow import Allowed, read_allowed
+from lcrq_tools.port.port_compare import Comparison, Difference, Follow, Listed, never
 from lcrq_tools.port.port_ledger import first_of
 from lcrq_tools.port.port_log import Record, Unreadable
 from lcrq_tools.port.port_orders import Found
@@ -70,6 +75,8 @@ def parser() -> argparse.ArgumentParser:
     command.add_argument("--strict", action="store_true", help="ask for a record of each choice at E10")
     reuse = "let memory be used again while an actor, an end or a next still has it"
     command.add_argument("--reuse", action="store_true", help=reuse)
+    allow = "a file with differences that are meant"
+    command.add_argument("--allow", metavar="FILE", help=allow)
     command.add_argument("--cut", action="store_true", help="let a log end in the middle of a record")
     command.add_argument("--go-on", action="store_true", help="take the port's side at each difference, and list all")
     tries = f"how often a search for an order fails before it ends, without getting further: {TRIES:,} if left out"
@@ -164,45 +171,51 @@ def first_difference(comparison: Comparison, progress: Progress) -> Difference |
 def compare(given: argparse.Namespace, folder: Path) -> int:
     """Compares the logs; returns the exit status. Where it comes out late that they have to be sorted, that their
     order is to be found, or that they have choices, it begins again."""
-    asks = given.strict
+    asks, allowed = given.strict, read_allowed(given.allow)
     if given.output:
         emptied(given.output)
     with contextlib.closing(Source(given.logs)) as source:
         while True:
             try:
-                return compare_over(given, folder, source, asks)
+                return compare_over(given, folder, source, asks, allowed)
             except (OutOfOrder, HasChoices) as fault:
                 asks = asks or isinstance(fault, HasChoices)
                 source.again(fault)
 
 
-def compare_over(given: argparse.Namespace, folder: Path, source: Source, asks: bool) -> int:
+def compare_over(given: argparse.Namespace, folder: Path, source: Source, asks: bool, allowed: Allowed) -> int:
     """Compares the records of logs over a world; returns the exit status."""
     source.put(source.some(1))
     if not source.put_back:
         raise Unreadable("; ".join([f"{' '.join(given.logs)}: no record", *source.cuts]))
     with contextlib.closing(Replay(given.program, folder, options_of(given))) as replay:
         source.actors.limit = len(replay.states)
-        found = order_of(given, folder, source) if source.is_open else None
+        found = order_of(given, folder, source, allowed) if source.is_open else None
         records: Source | Listed = Listed(found.records, source.actors) if found else source
-        is_different = compare_records(given, compared(given, replay, records, asks), Progress(source.far))
+        comparison = compared(given, replay, records, asks, allowed.follow)
+        is_different = compare_records(given, comparison, Progress(source.far))
     if source.cuts:
         print(f"the log is cut: {first_of(source.cuts)}")
-    sys.stdout.writelines(f"{line}\n" for line in (lines_of(found, given.tries, given.output) if found else ()))
+    order = lines_of(found, given.tries, given.output) if found else ()
+    allowed.used = comparison.followed
+    sys.stdout.writelines(f"{line}\n" for line in (*order, *allowed.lines()))
     sys.stdout.flush()
     return 1 if is_different or source.cuts and not given.cut else 0
 
 
-def compared(given: argparse.Namespace, replay: Replay, records: Source | Listed, asks: bool) -> Comparison:
+def compared(
+    given: argparse.Namespace, replay: Replay, records: Source | Listed, asks: bool, follow: Follow
+) -> Comparison:
     """A comparison of these records, at its begin."""
-    return Comparison(replay, records, asks_choices=asks, permits_reuse=given.reuse)
+    return Comparison(replay, records, asks_choices=asks, permits_reuse=given.reuse, follow=follow)
 
 
-def order_of(given: argparse.Namespace, folder: Path, source: Source) -> Found:
+def order_of(given: argparse.Namespace, folder: Path, source: Source, allowed: Allowed) -> Found:
     """The order in which the records are compared, where their stamps leave it open."""
-    progress, records = Progress(), source.whole()
+    progress, records = Progress(), Listed(source.whole())
     with contextlib.closing(Replay(given.program, folder, options_of(given))) as replay:
-        found = found_order(compared(given, replay, Listed(records), given.strict), given.tries, progress)
+        follow = allowed.by_steps if allowed.meant else never
+        found = found_order(compared(given, replay, records, given.strict, follow), given.tries, progress)
     progress.end()
     return found
 

@@ -2,6 +2,7 @@
 differs.
 """
 
+import collections
 import itertools
 from collections.abc import Callable, Iterable, Iterator, Sequence
 from dataclasses import dataclass, replace
@@ -16,7 +17,7 @@ from lcrq_tools.port.port_stream import Actors, HasChoices, Raw, Source
 from lcrq_tools.records import CALLS, NOTHING, Actor, Event, Refusal, Step, is_made
 from lcrq_tools.start.starts import reachable, values_in
 
-RECORDS = 1000  # that are compared at a time
+RECORDS, FEW = 1000, 20  # that are compared at a time, the few behind one that was not compared alone
 NEEDS_CHOICE = "refused 4 "
 
 
@@ -37,6 +38,14 @@ class Difference:
     def label(self) -> str:
         """The label under which it is counted."""
         return self.record.label or self.point
+
+
+Follow = Callable[["Comparison", Difference], bool]  # lets the model do as the port does; whether it does
+
+
+def never(_comparison: "Comparison", _found: Difference) -> bool:
+    """Lets the model do what it does."""
+    return False
 
 
 class Listed:
@@ -67,9 +76,11 @@ class Comparison:
     """The records of a log beside a run of the program."""
 
     def __init__(
-        self, replay: Replay, source: Source | Listed, *, asks_choices: bool = False, permits_reuse: bool = False
+        self, replay: Replay, source: Source | Listed, *,
+        asks_choices: bool = False, permits_reuse: bool = False, follow: Follow = never,
     ):
         self.replay, self.source, self.permits_reuse = replay, source, permits_reuse
+        self.follow, self.followed = follow, collections.Counter[str]()  # how often, by where it is allowed
         self.has_choices = isinstance(source, Listed) and source.has_choices  # in the records that are known
         self.asks_choices = asks_choices or self.has_choices  # so one that is missing is a difference
         self.ahead = Ahead(self, source) if isinstance(source, Source) else None
@@ -80,6 +91,7 @@ class Comparison:
         self.made = [*made, *[0] * MOST_ACTORS]  # how many segments each actor has made, and the root
         self.ledger = Ledger(map(str, values_in(start, ("enq", "aenq")) if start else ()))
         self.next, self.is_over = 0, False  # the next record, and whether there is none
+        self.most = RECORDS  # that are compared at a time
         self.states_before: dict[int, Actor] = {}  # each actor before its last step
         self.last: dict[int, Record | Raw] = {}  # the last record of each actor
         self.compared = dict.fromkeys(("labels", "places", "answers", "replies", "words"), 0)
@@ -93,15 +105,16 @@ class Comparison:
                 self.freeze()
             if self.ahead and not self.ahead.run(progress):
                 self.is_over = True
-            elif self.replay.room() > 0 and (found := self.compare_some(1 if self.ahead else RECORDS)):
+            elif self.replay.room() > 0 and (found := self.compare_some()) and not self.follow(self, found):
                 return found
         return None
 
-    def compare_some(self, most: int) -> Difference | None:
+    def compare_some(self) -> Difference | None:
         """Compares the next records, one at a time where most are compared ahead."""
-        records, before = self.source.take(most), self.next
+        records, before = self.source.take(1 if self.ahead else self.most), self.next
         self.is_over = not records
         found = self.compare(records)
+        self.most = FEW if found else min(2 * self.most, RECORDS)
         if found and found.model.startswith(NEEDS_CHOICE):
             if self.asks_choices:
                 found = replace(found, kind="choice")

@@ -20,6 +20,7 @@ SET_AT = {"crq": ("E1", "Q1"), "new": ("E12",), "next": ("E2", "Q13")}  # words 
 LINKING = {b"qh", b"qt", b"ne", b"wh"}  # how the places begin that they touch
 LONGEST = len("actor Idle none")  # letters of a reply to `actor A` that have the control point
 SETS = {point for points in SET_AT.values() for point in points}
+LINK, TRIED = "E13", (b"won", b"lost")  # the line that links what an actor made, and its answers
 FREEZE_AT = 60_000  # live steps, of the 65,535 that there may be
 AHEAD = 1 << 20  # bytes of lines and of replies that may wait in the pipes
 Made = tuple[str, Step]  # a step, with its control point
@@ -71,6 +72,15 @@ class Steps(Sequence[Made]):
         self.actors += actors
         self.made += made
         self.stands += stands
+
+    def own(self, actor: int) -> Iterator[Made]:
+        """The known steps of an actor, the last first."""
+        here = self.actors.rfind(actor)
+        while here >= 0:
+            yield self[self.before + here]
+            here = self.actors.rfind(actor, 0, here)
+        known = {number: made for number, made in self.known.values() if made[1].event.actor == actor}
+        yield from (known[number] for number in sorted(known, reverse=True))
 
     def last_line(self, actor: int) -> bytes:
         """The reply to `step K` about an actor's last step; nothing if it has none."""
@@ -136,7 +146,7 @@ class Steps(Sequence[Made]):
             made, number = self[self.before + here], self.before + here + 1
             if made[1].access == "wrote":
                 self.known[made[1].place] = number, made
-            if made[0] in SETS:
+            if made[0] in (*SETS, LINK):
                 self.known[self.actors[here], made[0]] = number, made
         self.known |= {actor: (last, self[last - 1]) for actor in {*self.actors} if (last := self.last_of(actor))}
         self.before, self.first, self.actors = len(self), first, bytearray()
@@ -144,14 +154,16 @@ class Steps(Sequence[Made]):
 
     def last_ones(self) -> list[int]:
         """Of the steps since the start the last that linked each segment, and the last of each actor that set a
-        word: which they are."""
+        word or tried to link: which they are."""
         found: dict[object, int] = {}
         for here in range(len(self.made) - 1, -1, -1):
             _, _, place, access, answer, _ = self.made[here].split(b"; ", 5)
-            kind = place[:2]
+            kind, actor = place[:2], self.actors[here]
             if kind in LINKING and answer != b"lost":
-                found.setdefault(place if answer == b"won" else (self.actors[here], kind), here)
-        return sorted(found.values())
+                found.setdefault(place if answer == b"won" else (actor, kind), here)
+            if kind == b"ne" and answer in TRIED:
+                found.setdefault((actor, LINK), here)
+        return sorted({*found.values()})
 
     def forget_links(self, segments: Collection[str]) -> None:
         """Forgets who linked segments, but for these."""

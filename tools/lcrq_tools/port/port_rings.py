@@ -18,8 +18,8 @@ Opened = Callable[[int, Path], Replay]  # a fresh world with rings of so many ce
 
 def began_again(comparison: Comparison, replay: Replay, records: list[Record]) -> Comparison:
     """A comparison like this one, of these records over another world."""
-    asks, permits = comparison.asks_choices, comparison.permits_reuse
-    return Comparison(replay, Listed(records), asks_choices=asks, permits_reuse=permits)
+    asks, permits, follow = comparison.asks_choices, comparison.permits_reuse, comparison.follow
+    return Comparison(replay, Listed(records), asks_choices=asks, permits_reuse=permits, follow=follow)
 
 
 def guesses(comparison: Comparison, found: Difference, opened: Opened) -> Iterator[str]:

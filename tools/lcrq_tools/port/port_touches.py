@@ -59,7 +59,8 @@ def kind_of(record: Record) -> str:
     """The kind of place that a record touches; nothing for one that touches none."""
     if record.kind != "step" or record.choice:
         return ""
-    return record.place[0] if record.place else TOUCHED_BY.get(record.label, ANYTHING)
+    kind = record.place[0] if record.place else TOUCHED_BY.get(record.label, ANYTHING)
+    return "cell" if kind == "value" and len(record.answer) > 1 else kind  # a whole cell that is read at once
 
 
 def names_in(record: Record) -> Iterator[str]:
@@ -91,6 +92,8 @@ class Reader:
         if record.place:
             segment, index = (*map(str, record.place[1:]), "", "")[:2]
             return plain(segment), number_of(index)
+        if kind == "whole":
+            return next(names_in(record), ""), ""
         segment = self.segment if kind in (*OF_A_CELL, *OF_A_SEGMENT) else ""
         return segment, self.index if kind in OF_A_CELL else ""
 

@@ -8,17 +8,17 @@ from pathlib import Path
 
 from lcrq_tools import dependence
 from lcrq_tools.port.port_ahead import reply_in
-from lcrq_tools.port.port_compare import NEEDS_CHOICE, Comparison, Difference, Listed
+from lcrq_tools.port.port_allow import POINTS
+from lcrq_tools.port.port_compare import NEEDS_CHOICE, Comparison, Difference, Listed, never
 from lcrq_tools.port.port_ledger import Ledger
 from lcrq_tools.port.port_log import Names, Record
 from lcrq_tools.port.port_orders import Found, Search, Tried, open_records
-from lcrq_tools.port.port_replay import Replay
 from lcrq_tools.port.port_touches import names_in
 from lcrq_tools.records import Actor, Step
 
 ADDS = ("E4", "Q2", "A1", "B1")  # what these leave follows from what they found
 HOPELESS = ("line", "call")  # kinds of differences that no step of another actor takes away
-EVERYTHING = ("everything",)  # a place that each record touches
+EVERYTHING = "everything"  # a place that each record touches
 ORDER = "order.log"
 
 
@@ -85,8 +85,8 @@ class Trial:
         touched = self.touched(record, found, before)
         if found:
             self.names.go_back(before)
-            is_hopeless = (found.kind in HOPELESS or record.kind == "reply") and not self.lacks_choice(found)
-            return Tried(False, touched, is_hopeless=is_hopeless)
+            is_hopeless = found.kind in HOPELESS or record.kind == "reply"
+            return Tried(False, touched, is_hopeless=is_hopeless and not self.is_open(found))
         self.made.append(before)
         self.note(before)
         is_known = record.kind != "step" or bool(record.choice or record.answer)
@@ -102,7 +102,12 @@ class Trial:
         found = self.comparison.compare([record])
         if found and self.lacks_choice(found):
             return None if self.comparison.choose(record) else found
-        return found
+        return None if found and self.comparison.follow(self.comparison, found) else found
+
+    def is_open(self, found: Difference) -> bool:
+        """Whether what any other actor does may take a difference away."""
+        may_follow = self.comparison.follow is not never and found.point in POINTS
+        return may_follow or found.kind == "refused" or self.lacks_choice(found)
 
     def before(self, actor: int) -> Before:
         """What is now."""
@@ -116,19 +121,18 @@ class Trial:
 
     def touched(self, record: Record, found: Difference | None, before: Before) -> dependence.Step:
         """What a record touched and wrote, or would where it agrees."""
-        steps = [*self.replay.steps.behind(before.count)]
-        made = found.made if found else steps[-1][1] if steps and record.kind == "step" else None
+        steps = [found.made] if found else [step for _, step in self.replay.steps.behind(before.count)]
+        made = [dependence.step_of(str(step), self.replay.ring) for step in steps if step]
         itself = f"actor {record.actor}"
-        none = dependence.Step("", "-", (itself,), (itself,), "")
-        step = dependence.step_of(str(made), self.replay.ring) if made else none
-        is_unknown = found is not None and (found.kind == "refused" or self.lacks_choice(found))
-        names = tuple(f"name {word}" for word in names_in(record))
+        touched = {itself}.union(*(step.touched for step in made))
+        wrote = {itself}.union(*(step.wrote for step in made))
+        is_unknown = found is not None and self.is_open(found)
+        names = {f"name {word}" for word in names_in(record)}
         is_learning = self.names.segments is not before.names[0]
-        is_making = made is not None and made.answer.startswith("made ")
-        step.touched += (*names, *EVERYTHING)
-        step.wrote += names if is_learning and is_making else ()
-        step.wrote += EVERYTHING if is_unknown or self.names.again or is_learning and not is_making else ()
-        return step
+        is_making = any(step is not None and step.answer.startswith("made ") for step in steps)
+        wrote |= names if is_learning and is_making else set()
+        wrote |= {EVERYTHING} if is_unknown or self.names.again or is_learning and not is_making else set()
+        return dependence.Step("", "", (*touched, *names, EVERYTHING), tuple(wrote), "")
 
     # ---- What worlds have in common
 

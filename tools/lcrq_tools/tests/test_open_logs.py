@@ -57,7 +57,8 @@ class Logs(unittest.TestCase):
                 self.assertTrue(all(it.before <= time <= it.after for it, time in zip(drawn.run, times)))
             for actor in (1, 2, 3):
                 own = [access for access in drawn.run if access.actor == actor]
-                self.assertTrue(all(drawn.is_coarse or one.after < then.before for one, then in itertools.pairwise(own)))
+                pairs = itertools.pairwise(own)
+                self.assertTrue(all(drawn.is_coarse or one.after < then.before for one, then in pairs))
 
     def test_a_bug_is_in_one_answer(self) -> None:
         changed = open_logs.with_bug(DRAWN, random.Random(1))

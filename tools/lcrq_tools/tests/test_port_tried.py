@@ -44,7 +44,7 @@ class Trials(unittest.TestCase):
             made.go(record)
         key, tried = made.key(), made.go(made.records[3])
         self.assertEqual((tried.agrees, tried.is_hopeless, made.key(), made.replay.count()), (False, False, key, 3))
-        self.assertEqual(tried.step.wrote, ("tail 0.0", "actor 1"))
+        self.assertEqual({*tried.step.wrote}, {"tail 0.0", "actor 1"})
 
     def test_a_record_of_another_line_is_hopeless(self) -> None:
         rows = ["2 1 E2 next root", "2 1 deq", "2 1 empty"]
@@ -52,7 +52,7 @@ class Trials(unittest.TestCase):
             made = trial(LOG[0], text)
             made.go(made.records[0])
             tried = made.go(made.records[1])
-            self.assertEqual((tried.agrees, tried.is_hopeless, tried.step.wrote[-1]), (False, True, "actor 1"), text)
+            self.assertEqual((tried.agrees, tried.is_hopeless), (False, True), text)
 
     def test_names_are_learned_while_a_segment_has_none(self) -> None:
         made = trial(*LOG)
