@@ -9,7 +9,6 @@ import re
 from collections import Counter
 from collections.abc import Iterator, Sequence
 from dataclasses import dataclass, replace
-from pathlib import Path
 
 from lcrq_tools import model
 from lcrq_tools.port.port_compare import Comparison, Difference, Follow

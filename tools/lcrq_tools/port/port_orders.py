@@ -69,6 +69,7 @@ class Found:
     records: list[Record]  # in the order found, or in the one that came furthest, the others by their stamps
     count: int  # how many of them agree
     is_whole: bool  # all orders were tried that differ, or one was found
+    is_settled: bool  # what was before some record could not be taken back
     tried: int  # how often a record was tried
     back: int  # how often one was taken back
 
@@ -174,7 +175,8 @@ class Search:
                 self.dead.add(frames.pop().key)
                 self.go_back(frames)
         is_whole = self.placed() == len(self.records) or not frames and not self.is_settled
-        return Found(self.records, self.order(), self.best.count if self.best else 0, is_whole, self.tried, self.back)
+        count = self.best.count if self.best else 0
+        return Found(self.records, self.order(), count, is_whole, self.is_settled, self.tried, self.back)
 
     def placed(self) -> int:
         """How many records have their place."""

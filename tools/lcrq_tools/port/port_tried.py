@@ -13,6 +13,7 @@ from lcrq_tools.port.port_compare import NEEDS_CHOICE, Comparison, Difference, L
 from lcrq_tools.port.port_ledger import Ledger
 from lcrq_tools.port.port_log import Names, Record
 from lcrq_tools.port.port_orders import Found, Search, Tried, open_records
+from lcrq_tools.port.port_replay import FREEZE_AT
 from lcrq_tools.port.port_touches import names_in
 from lcrq_tools.records import Actor, Step
 
@@ -213,7 +214,8 @@ def lines_of(found: Found, tries: int, folder: Path | None) -> Iterator[str]:
         yield f"order: {many}, and in no order all agree; this one came furthest: {cost}"
     else:
         none = f"no order in which all agree was found within --tries {tries:,}"
-        yield f"order: {many}; {none}; this one came furthest: {cost}"
+        far = f", and none that differs before the last {FREEZE_AT:,} steps was tried"
+        yield f"order: {many}; {none}{far if found.is_settled else ''}; this one came furthest: {cost}"
     if folder:
         folder.mkdir(parents=True, exist_ok=True)
         (folder / ORDER).write_text("".join(renumbered(found.records)), encoding="utf-8")

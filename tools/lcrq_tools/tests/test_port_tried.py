@@ -92,13 +92,15 @@ class Orders(unittest.TestCase):
             (2, False, "2 of 3 records overlap others; no order in which all agree was found within --tries 9; this"),
         ]
         for count, is_whole, said in rows:
-            line, = lines_of(Found(records, order, count, is_whole, 1234, 5), 9, None)
+            line, = lines_of(Found(records, order, count, is_whole, False, 1234, 5), 9, None)
             self.assertEqual(line[:len("order: ") + len(said)], f"order: {said}")
+        line, = lines_of(Found(records, order, 2, False, True, 1234, 5), 9, None)
+        self.assertIn("within --tries 9, and none that differs before the last 60,000 steps was tried; this one", line)
 
     def test_the_order_is_written_as_a_log(self) -> None:
         records = records_of("1-3 a deq", "2 b enq  7;")
         with tempfile.TemporaryDirectory() as name:
             folder = Path(name) / "new"
-            *_, last = lines_of(Found(records, records[::-1], 2, True, 2, 0), 9, folder)
+            *_, last = lines_of(Found(records, records[::-1], 2, True, False, 2, 0), 9, folder)
             self.assertEqual((folder / "order.log").read_text(), "1 b enq  7;\n2 a deq\n")
             self.assertEqual(last, f"  {folder / 'order.log'}: the log in this order")
