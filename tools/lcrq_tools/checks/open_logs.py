@@ -24,6 +24,7 @@ APART = 10  # ticks between two accesses
 WIDTHS = (5, 20, 60, 200)  # of the longest wait between an access and a stamp of it, of which a log has one
 COARSE = 0.2  # the share of logs with a clock that stands still for some accesses
 SILENT, UNCHOSEN = 0.2, 0.2  # of those that leave out answers, and the choices at E10
+OF_ANOTHER = 0.7  # the share of bugs in which an access finds what another one found
 ALL_SAID = ("E10", "E12", "reply")  # whose answers are never left out
 
 
@@ -117,17 +118,26 @@ def silent(run: list[Access], chance: random.Random) -> list[Access]:
     return [access if is_said else replace(access, answer="") for access, is_said in zip(run, said)]
 
 
+def other_answer(access: Access, run: list[Access], chance: random.Random) -> str:
+    """Another answer of an access: one that another access of this label got, or any; nothing if there is none."""
+    others = [it.answer for it in run if it.what == access.what and it.answer not in ("", access.answer)]
+    if others and chance.random() < OF_ANOTHER:
+        return chance.choice(others)
+    words = access.answer.split(" ")
+    at = chance.randrange(len(words))
+    word = words[at]
+    words[at] = str(int(word) + chance.choice([1, 2])) if word.isdecimal() else OTHERS.get(word, "")
+    return " ".join(words) if words[at] else ""
+
+
 def with_bug(run: list[Access], chance: random.Random) -> list[Access]:
     """A run in which one access found something else."""
     while True:
         number = chance.randrange(len(run))
         access = run[number]
-        words = access.answer.split(" ")
-        at = chance.randrange(len(words))
-        word = words[at]
-        words[at] = str(int(word) + chance.choice([1, 2])) if word.isdecimal() else OTHERS.get(word, "")
-        if words[at] and access.what != "E12":
-            return [*run[:number], replace(access, answer=" ".join(words)), *run[number + 1 :]]
+        answer = "" if access.what == "E12" else other_answer(access, run, chance)
+        if answer:
+            return [*run[:number], replace(access, answer=answer), *run[number + 1 :]]
 
 
 # ---- Brute force ---------------------------------------------------------------------------------

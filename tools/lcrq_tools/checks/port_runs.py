@@ -73,7 +73,9 @@ class Bench:
         step, and the start before it is the world before that step."""
         script = (folder / "to.script").read_text(encoding="ascii").splitlines()
         start, before = folder / "from.trace", folder / "before.trace"
-        words, over = ["load", str(start)] if start.exists() else ["run", "-", "--ring", "2"], ["load", str(before)]
+        trace: Trace = json.loads(before.read_text(encoding="ascii"))
+        fresh = ["run", "-", "--actors", str(len(trace["start"]["actors"])), "--ring", "2"]
+        words, over = ["load", str(start)] if start.exists() else fresh, ["load", str(before)]
         whole = self.replies(words, [*script, f"step {len(script)}"])
         alone = self.replies(over, [script[-1], "step 1"])
         step, other = (replies[-1].partition("; ")[2] for replies in (whole, alone))
@@ -81,7 +83,6 @@ class Bench:
             return f"the last step of to.script is `{step}`, and over before.trace it is `{other}`"
         if step.partition("; ")[2] not in text:
             return f"the step `{step}` is not in what the tool says"
-        trace: Trace = json.loads(before.read_text(encoding="ascii"))
         asked = questions_of(trace["start"])
         if self.replies(words, [*script[:-1], *asked])[-len(asked) :] != self.replies(over, asked):
             return "before.trace is another world than the one to which to.script leads before its last line"

@@ -14,6 +14,7 @@ search goes on by one record after the other, and back where no record agrees. I
 What a record touches `dependence.py` says when it is tried, and `port_touches.py` before.
 """
 
+import itertools
 from collections.abc import Callable, Iterator, Sequence
 from dataclasses import dataclass, field
 from typing import NamedTuple, Protocol
@@ -89,6 +90,8 @@ class Frame:
 
 def open_records(records: Sequence[Record]) -> int:
     """How many of these records, which are in the order of their first stamps, meet one of another actor's."""
+    if all(first.after < then.stamp for first, then in itertools.pairwise(records)):
+        return 0
     open_ones: set[int] = set()
     reach: dict[int, tuple[int, int]] = {}  # of each actor the latest second stamp, and the number of its record
     for number, record in enumerate(records):
