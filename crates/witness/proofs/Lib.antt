@@ -1,0 +1,5 @@
+pub mod LiveRuns
+pub mod SessionLemmas
+pub mod OneAnswer
+pub mod OnlyReport
+pub mod RoomLemmas
