@@ -19,8 +19,9 @@ The session of the README and the examples of the manual are in `examples/`, eac
 `tools/check.py lessons` compares these with the program. A view, and the line of a trace, are in the stored
 text of `tools/check.py rehearsals`, and the scripts of a view are in `examples/` too, byte for byte. What two
 people type and see live is how the table of lesson 12 begins. A block that shows a reply and is none of these
-is a fault, and so is a line of docs/MODEL.md's pseudo-code that `model.py` can't read. Each check prints a
-line; the status is 1 if one of them finds a fault. Only Python's standard library is used.
+is a fault, and so is a line of docs/MODEL.md's pseudo-code that `model.py` can't read, or a session in the
+laws of `witness` that isn't the README's. Each check prints a line; the status is 1 if one of them finds a
+fault. Only Python's standard library is used.
 """
 
 import collections
@@ -60,6 +61,9 @@ LIVE = "12-two-viewers"  # the lesson with a table of what people type live
 
 # The scripts of `rehearsals` that the manual names, for whoever types its commands in `examples/`.
 COPIED = ["questions.script", "question.script"]
+
+# The lines and replies of the session of which the laws of `witness` are.
+WITNESS = CRATES / "witness/specs/Session.antt"
 
 
 def text_of(page: Path) -> str:
@@ -136,6 +140,15 @@ def is_copied(name: str) -> str:
     return "" if copy.read_bytes() == source.read_bytes() else f"it is not {source.relative_to(TOP)}"
 
 
+def is_witnessed() -> str:
+    """What is wrong with the session of the laws of `witness`, or nothing, where it is the README's and one more
+    line with its reply."""
+    texts = re.findall(r'codes "([^"]*)"', text_of(WITNESS))
+    half = len(texts) // 2
+    rows = [list(row) for row in zip(texts[:half], texts[half:])]
+    return "" if rows[:-1] == example("session") else "it is not session.script beside session.report and one more"
+
+
 def is_read() -> str:
     """What of the pseudo-code can't be read, or nothing."""
     model.read(text_of(model.PAGE))
@@ -165,11 +178,13 @@ def checks_of(name: str, examples: list[Example]) -> Checks:
 
 
 def block_checks() -> Checks:
-    """The checks of all blocks, of the scripts that pages name, and of the pseudo-code."""
+    """The checks of all blocks, of the scripts that pages name, of the session of `witness`, and of the
+    pseudo-code."""
     for name, examples in PAGES.items():
         yield from checks_of(name, examples)
     for name in COPIED:
         yield f"examples/{name}", tried(is_copied, name)
+    yield name_of(WITNESS), tried(is_witnessed)
     yield "docs/MODEL.md: the pseudo-code", tried(is_read)
 
 
