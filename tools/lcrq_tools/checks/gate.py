@@ -37,6 +37,7 @@ COMMANDS = (
     "python3 tools/check.py sentences",
     "python3 tools/check.py prompt",
     "python3 tools/check.py conversation",
+    "python3 tools/check.py ample",
     "python3 tools/check.py refused_memory back",
 )
 SKIPPED = re.compile(rb"\d+ right, \d+ wrong, \d+ skipped: (.*)\n?")  # how a check ends that skipped something
