@@ -2,8 +2,9 @@
 
 Its text has a part for each viewer, then a line `history H`, and then the H calls, each a line `V LINE`: the number of
 the viewer and the line that it asked. The session's trace may follow. The lines `V LINE` by themselves are a history
-too. Without their viewers the lines are a script, which `lcrqdb run` answers as the viewers were answered. Only
-Python's standard library is used.
+too. Without their viewers the lines are a script, which `lcrqdb run` answers as the viewers were answered. What
+`live.py` keeps has notes behind `#`, which are skipped, and calls of 0, which is nobody. Only Python's standard library
+is used.
 """
 
 import re
@@ -19,6 +20,8 @@ PART = re.compile("viewer [0-9]+")
 COUNT = re.compile("history ([0-9]+)")
 CALL = re.compile("([0-9]+) (.+)")
 TRACE = "{"  # how the line of a trace begins
+NOTE = "#"  # how a line begins that is no call
+NOBODY = "0"  # in the place of a viewer, for a line that was there before any viewer
 
 
 @dataclass(frozen=True)
@@ -50,7 +53,8 @@ def history_of(where: str, text: str) -> History:
         lines.pop()
     head = head_of(where, lines)
     most = sum(1 for line in lines[:head] if PART.fullmatch(line)) or MOST_VIEWERS
-    calls = [call_of(f"{where}: line {number}", line, most) for number, line in enumerate(lines[head:], head + 1)]
+    numbered = ((number, line) for number, line in enumerate(lines[head:], head + 1) if not line.startswith(NOTE))
+    calls = [call_of(f"{where}: line {number}", line, most) for number, line in numbered]
     if head and lines[head - 1] != f"history {len(calls)}":
         hint = "" if calls else ": `lcrqdb view FILE.. --history` writes them"
         what = f"`{shown(lines[head - 1])}`, and the number of calls behind it is {len(calls)}"
@@ -72,6 +76,8 @@ def call_of(where: str, line: str, most: int) -> tuple[int, str]:
     if not found:
         raise Fault(f"{where}: `{shown(line)}` is no call, which is a viewer's number and its line, as `2 go 1`")
     number, asked = found.groups()
+    if number == NOBODY:
+        return 0, asked
     if number.startswith("0") or len(number) > len(str(most)) or int(number) > most:
         raise Fault(f"{where}: `{shown(line)}` is of no viewer: they are numbered from 1 to {most}")
     return int(number), asked

@@ -2,7 +2,8 @@
 
 function isSeen(element) {
   const style = getComputedStyle(element);
-  return style.visibility === "visible" && style.display !== "none" && element.getClientRects().length > 0;
+  const isOpen = element.closest("summary") || !element.closest("details:not([open])");
+  return isOpen && style.visibility === "visible" && style.display !== "none" && element.getClientRects().length > 0;
 }
 
 function middle(element) {
@@ -40,10 +41,10 @@ function viewerOf(element) {
 function rowsShown() {
   const rows = seenIn("#lanes .row").map((row) => [row.getBoundingClientRect().top, row]);
   rows.sort((one, other) => one[0] - other[0]);
-  const line = seenIn("#border line")[0], border = line && line.getBoundingClientRect();
-  const side = (box) => (!border ? "above" : box.bottom <= border.bottom + 1 ? "above" : box.top >= border.top - 1 ? "below" : "on");
+  const line = seenIn("#border")[0], border = line && line.getBoundingClientRect();
+  const side = (box) => (!border || box.bottom <= border.top + 1 ? "above" : box.top >= border.top - 1 ? "below" : "on");
   return rows.map(([top, row]) => ({
-    number: textOf(row.querySelector(".number")), about: row.getAttribute("aria-label"), side: side(row.querySelector(".ground").getBoundingClientRect()),
+    number: textOf(row.querySelector(".number")), about: row.getAttribute("aria-label"), side: side(row.getBoundingClientRect()),
     last: row.classList.contains("last"), named: row.classList.contains("named"), viewer: viewerOf(row),
     undone: row.classList.contains("undone"), stops: row.getAttribute("tabindex") === "0", id: Number(row.dataset.row),
   }));
@@ -83,13 +84,62 @@ function handout() {
   });
 }
 
+// ---- A page that grows ----
+
+// The first line at which a page whose moments came one after another shows anything else than one that had all from
+// its beginning, or has parts of another size; and what that is.
+function grown() {
+  const { run, states } = page, seen = () => page.states.map((state, at) => (show(at), { frames: frames(), dots: dotsShown(), ...shown() }));
+  const whole = seen(), lists = states.map((state) => state.rows), half = Math.ceil(lists.length / 2);
+  const rowsOf = (ids) => Object.fromEntries(ids.map((id) => [id, run.rows[id]]));
+  const { layout, room } = run, bare = { ...layout, lanes: layout.lanes.filter((lane) => lane[3]), bands: [] };
+  load({ ...run, moments: run.moments.slice(0, half), rows: rowsOf(lists.slice(0, half).flat()), layout: bare, room: "" }, half);
+  if (dotsShown().some((dots) => dots.length > 1)) return "a dot is drawn that has no lane";
+  run.moments.slice(half).forEach((moment, at) => {
+    const rows = rowsOf(lists[half + at].filter((id) => !page.rows.has(id)));
+    append({ moment, rows, ...(at ? {} : { layout, room }) });
+  });
+  for (const [at, now] of seen().entries()) {
+    const part = Object.keys(now).find((key) => JSON.stringify(now[key]) !== JSON.stringify(whole[at][key]));
+    if (part) return `line ${states[at].line}: ${part} is ${JSON.stringify(now[part])}, and was ${JSON.stringify(whole[at][part])}`;
+  }
+  return "";
+}
+
+// Where the dots of each row are, however far the lanes are scrolled.
+function dotsShown() {
+  const left = middle(document.getElementById("lane-heads"));
+  const rows = seenIn("#lanes .row").sort((one, other) => one.dataset.row - other.dataset.row);
+  return rows.map((row) => seenIn(".dot", row).map((dot) => middle(dot.querySelector("circle, path")) - left));
+}
+
+// The row of a step of a live page, live or undone, is clicked; and which steps are framed there.
+function clickStep(step) {
+  const { element } = page.rows.get(page.states.at(-1).rows[step - 1]);
+  element.scrollIntoView({ block: "center" });
+  element.click();
+}
+
+function framedSteps() {
+  const isFramed = (id) => page.rows.get(id).frame && !page.rows.get(id).frame.classList.contains("away");
+  return page.states.at(-1).rows.flatMap((id, at) => (isFramed(id) ? [at + 1] : []));
+}
+
+// What a click on a row tells other scripts.
+function picked(id) {
+  let told = null;
+  document.addEventListener("picked", (event) => { told = event.detail; }, { once: true });
+  document.querySelector(`#lanes .row[data-row="${id}"]`).click();
+  return told;
+}
+
 // ---- Where texts are ----
 
 function textBoxes() {
   const boxes = [], walker = document.createTreeWalker(document.body, NodeFilter.SHOW_TEXT);
   while (walker.nextNode()) {
     const node = walker.currentNode, parent = node.parentElement;
-    if (!node.data.trim() || parent.closest("script, style, title, .who, #handout") || !isSeen(parent)) continue;
+    if (!node.data.trim() || parent.closest("script, style, title, .who, #handout") || !isSeen(parent) || getComputedStyle(parent).clipPath === "inset(50%)") continue;
     const range = document.createRange();
     range.selectNodeContents(node);
     for (const box of range.getClientRects()) {
@@ -104,7 +154,7 @@ function cutOff({ parent, box }) {
   for (let it = parent; it; it = it.parentElement) {
     if (it instanceof SVGElement && it.tagName !== "svg") continue;
     const style = getComputedStyle(it), frame = it.getBoundingClientRect();
-    const clips = style.overflowX !== "visible" || it.tagName === "svg";
+    const clips = style.overflowX !== "visible";
     if (!clips || it === document.body || it === document.documentElement) continue;
     const moves = ["auto", "scroll"].includes(style.overflowX);
     const right = frame.left + (moves ? it.scrollWidth - it.scrollLeft : frame.width);
@@ -115,10 +165,13 @@ function cutOff({ parent, box }) {
   return !scrolls && (box.left < -1 || box.right > document.documentElement.clientWidth + 1);
 }
 
-const SCROLLERS = ".scroll, .lines, .look > section:first-child";
+const SCROLLERS = ".scroll, .lines, .chips, .look > section:first-child";
 
 function layoutFaults() {
-  for (const scroller of document.querySelectorAll(SCROLLERS)) scroller.scrollTo(0, 0);
+  for (const scroller of document.querySelectorAll(SCROLLERS)) {
+    scroller.scrollTo(0, 0);
+    scroller.dispatchEvent(new Event("scroll")); // which the browser tells later
+  }
   scrollTo(0, 0);
   const root = document.documentElement, faults = [], boxes = textBoxes();
   if (root.scrollWidth > root.clientWidth) faults.push(`the page scrolls sideways: ${root.scrollWidth} of ${root.clientWidth}`);

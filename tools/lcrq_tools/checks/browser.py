@@ -9,14 +9,18 @@ and by End, Home, the slider, a click and the address. After each key it compare
 the program's replies at that line, which are asked of a new run; with the accessibility tree; and who asked
 the line and each step with the history. At widths of 400, 1,000 and 1,900 pixels no text may be cut off or
 overlap another one, and no part may change its size along the run; the browser may log no error. A handout has
-the queue at each bookmark, or at the end. On a run of 400 lines, which has the name `long`, a key has to be
+the queue at each bookmark, or at the end. A page whose moments come one after another has to become what it is
+with all of them, a page of a part of the lines shows what the program replies, and a policy that allows no inline
+style and no handler finds nothing to forbid. On a run of 400 lines, which has the name `long`, a key has to be
 answered within 50 ms, and its page stays below 1 MB. Each check prints a line; the status is 1 if one fails, or
 if the browser is missing, where each line says `skipped`.
 """
 
 import argparse
 import functools
+import itertools
 import random
+import re
 import shutil
 import tempfile
 import time
@@ -47,6 +51,9 @@ HEIGHT = 1000
 MOST_MS = 50.0  # that a key may take
 WALKS = 3  # how often each key is pressed: the quickest counts, since others may use the machine
 LEAST_SIZE = {400: 9.5, 1000: 11.0, 1900: 13.0}  # pixels of the smallest letters, by the width
+# What a live page allows: nothing that has no nonce, as attributes of style and handlers have none.
+ALLOWED = "default-src 'none'; script-src 'nonce-n'; style-src 'nonce-n'; img-src data:"
+POLICY = f'<meta http-equiv="Content-Security-Policy" content="{ALLOWED}">'
 READS = Path(__file__).with_name("browser.js").read_text(encoding="utf-8")
 Json = Any  # what a function of browser.js returns
 Selenium = Any  # an object of selenium, most of whose functions have no types
@@ -72,6 +79,10 @@ class Browser:
         """Opens a page."""
         self.driver.get("about:blank")
         self.driver.get(f"{path.as_uri()}{fragment}")
+        self.read()
+
+    def read(self) -> None:
+        """Gives the page what reads it."""
         self.driver.execute_cdp_cmd("Runtime.evaluate", {"expression": READS})
 
     def ask(self, call: str) -> Json:
@@ -124,7 +135,7 @@ class Walk:
     """A page, which is written into a file, and the replies at each of its lines."""
 
     def __init__(self, browser: Browser, path: Path, arguments: argparse.Namespace) -> None:
-        self.browser, self.path = browser, path
+        self.browser, self.path, self.arguments = browser, path, arguments
         path.write_text(page.page_of(arguments)[0], encoding="utf-8")
         self.run = page.asked_of(arguments)
         self.count = len(self.run.lines)
@@ -155,7 +166,8 @@ class Walk:
         browser.open(self.path)
         moves = [(Keys.ARROW_RIGHT, line) for line in range(1, self.count + 1)]
         moves += [(Keys.ARROW_LEFT, line) for line in range(self.count - 1, -1, -1)]
-        moves += [(Keys.ARROW_LEFT, 0), (Keys.END, self.count), (Keys.ARROW_RIGHT, self.count), (Keys.HOME, 0)]
+        moves += [(Keys.ARROW_LEFT, 0), (Keys.PAGE_DOWN, 1), (Keys.PAGE_DOWN, 2), (Keys.PAGE_UP, 1)]
+        moves += [(Keys.END, self.count), (Keys.ARROW_RIGHT, self.count), (Keys.HOME, 0)]
         fault = self.fault_at(0)
         for key, line in moves:
             if fault:
@@ -184,7 +196,7 @@ class Walk:
         browser.open(self.path, f"#line={middle}")
         fault = fault or self.fault_at(middle)
         browser.press(Keys.END)
-        return fault or self.dependants_fault() or self.handout_fault()
+        return fault or self.dependants_fault() or self.picked_fault() or self.handout_fault()
 
     def handout_fault(self) -> str:
         """What is wrong with the handout, or nothing: the queue at each bookmark, and at the line that is shown,
@@ -212,6 +224,56 @@ class Walk:
             if marked != wanted:
                 return f"row {row} marks the rows {marked}, wanted {wanted}"
         return ""
+
+    def picked_fault(self) -> str:
+        """Which row of the last line doesn't tell its step when it is clicked, or doesn't lead to the line that made
+        it, or nothing."""
+        rows = self.browser.ask("rowsShown()")
+        for row, step in zip(rows, itertools.chain(range(1, self.moment(self.count).live + 1), itertools.repeat(0))):
+            told = self.browser.ask(f"picked({row['id']})")
+            if told != {"row": row["id"], "step": step}:
+                return f"row {row['id']} tells {told}, wanted step {step}"
+            led = [other["id"] for other in self.browser.ask("rowsShown()") if other["last"]]
+            if row["id"] > 0 and led != [row["id"]]:  # a line made it
+                return f"row {row['id']} leads to {self.browser.ask('location.hash')}"
+            self.browser.press(Keys.END)
+        return ""
+
+    def grown_fault(self) -> str:
+        """What a page shows in another way when its moments come one after another, or nothing."""
+        self.browser.resize(WIDTHS[1])
+        self.browser.open(self.path)
+        return self.browser.ask("grown()") or self.browser.errors()
+
+    def policy_fault(self) -> str:
+        """What a policy that allows nothing but scripts and styles with a nonce finds to forbid, or nothing."""
+        text, path = self.path.read_text(encoding="utf-8"), self.path.with_suffix(".policy.html")
+        allowed = re.sub(r"<(style|script)\b", r'<\1 nonce="n"', text)
+        path.write_text(allowed.replace("<head>", f"<head>\n{POLICY}", 1), encoding="utf-8")
+        self.browser.open(path)
+        self.browser.ask("handout()")
+        self.browser.press(Keys.END)
+        return self.fault_at(self.count) or self.browser.errors()
+
+    def part_fault(self) -> str:
+        """What is wrong with what the page of a later part of the run shows, or nothing."""
+        first, browser = self.count // 2 + 1, self.browser
+        path = self.path.with_suffix(".part.html")
+        arguments = argparse.Namespace(**vars(self.arguments) | {"part": (first, self.count)})
+        path.write_text(page.page_of(arguments)[0], encoding="utf-8")
+        browser.open(path)
+        for line in range(first - 1, self.count + 1):
+            asked, drawn = self.moment(line), browser.ask("shown()")
+            fault = (
+                ("" if drawn["where"] == f"line {line} of {self.count}" else f"it is {drawn['where']}")
+                or shown.places_fault(drawn, asked)
+                or shown.order_fault(drawn, asked)
+                or shown.actors_fault(drawn, asked, self.code)
+            )
+            if fault:
+                return f"line {line}: {fault}"
+            browser.press(Keys.ARROW_RIGHT)
+        return browser.errors()
 
     def layout_fault(self) -> str:
         """Which text is cut off or overlaps another one, and which part changes its size, or nothing."""
@@ -266,6 +328,9 @@ def checks(browser: Browser | None, folder: Path, given: argparse.Namespace) -> 
             walk = walk_of(browser, name, options, folder, given) if browser else None
             yield f"{name}, by all keys", walk.keys_fault() if walk else skipped
             yield f"{name}, at {len(WIDTHS)} widths", walk.layout_fault() if walk else skipped
+            yield f"{name}, moment by moment", walk.grown_fault() if walk else skipped
+            yield f"{name}, a part of its lines", walk.part_fault() if walk else skipped
+            yield f"{name}, under a policy", walk.policy_fault() if walk else skipped
     if not given.names or LONG in given.names:
         yield "a run of 400 lines", long_fault(browser, folder, given) if browser else skipped
 
@@ -279,7 +344,7 @@ def missing() -> str:
 def main() -> int:
     """Prints each check; returns the exit status."""
     parser = Parser(__doc__, "session")
-    about = f"the examples whose pages are opened, {VIEWERS} for a history, and {LONG} for the run of 400 lines (all)"
+    about = f"examples whose pages are opened, {VIEWERS}: a history, {LONG}: a run of 400 lines (all)"
     parser.add_argument("names", nargs="*", metavar="NAME", help=about)
     add_program(parser)
     given = parser.parse_args()

@@ -4,7 +4,7 @@
 The scripts have lines that are refused, and some that are no commands. The viewers share a fresh machine, or the
 session of a trace. The calls of a history are answered by one run of them as a script. A history is
 written as `lcrqdb view FILE.. --history` writes it, or as its calls alone. Who asked which step is found by
-other means than `askers.py` finds it: by the steps after each line, as on a page of the run; and in half of
+other means than `askers.py` finds it: by the steps after each line (`known_steps.py`); and in half of
 the histories by the step's actor, which one viewer alone moves. Only Python's standard library is used.
 """
 
@@ -17,13 +17,13 @@ from dataclasses import dataclass
 from pathlib import Path
 
 from lcrq_tools import history, program
-from lcrq_tools.checks import random_scripts, replies
+from lcrq_tools.checks import known_steps, random_scripts, replies
 from lcrq_tools.checks.random_scripts import Forms, drawing_words, text_of, written_script
 from lcrq_tools.checks.replies import TRACE
+from lcrq_tools.draw.figure import Session
 from lcrq_tools.faults import Fault
 from lcrq_tools.history import History
 from lcrq_tools.options import RINGS
-from lcrq_tools.page import run_rows, run_states
 from lcrq_tools.records import Event, is_made
 
 MOST_ACTORS = 4
@@ -233,15 +233,13 @@ def stored(arguments: argparse.Namespace) -> Run:
 
 def viewers_after(line: int, arguments: argparse.Namespace, run: Run) -> list[int]:
     """The viewers of the live and then of the undone steps after so many lines; 0 of a step of the start."""
-    asked = run_states.Asked(argparse.Namespace(**vars(arguments) | {"lines": line}), 0)
-    states = run_states.lengths_of(asked)
-    run_states.ask_steps(asked, states)
-    made, last = run_rows.Rows(states).made, states[-1]
-    first = [states[made[row][0]] for row in last.rows]  # the state where each step is first
-    viewers = [run.calls.viewers[state.line - 1] if is_made(state.reply) else 0 for state in first]
+    moments = known_steps.moments_of(Session(argparse.Namespace(**vars(arguments) | {"lines": line})))
+    known = known_steps.Known(moments)
+    first = [known.first[step][0] for step in known.last]  # the moment where each step is first
+    viewers = [run.calls.viewers[number - 1] if is_made(moments[number].reply) else 0 for number in first]
     if not run.owners:
         return viewers
-    lines = [str(step.event) for step in last.steps]
+    lines = [str(step.event) for step in moments[-1].steps]
     return [owner_of(line, run.owners) if viewer else 0 for line, viewer in zip(lines, viewers)]
 
 

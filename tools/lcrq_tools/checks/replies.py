@@ -14,6 +14,7 @@ from typing import Any, NamedTuple
 
 from lcrq_tools import program
 from lcrq_tools.draw.figure import Session
+from lcrq_tools.draw.lanes import lanes_of
 from lcrq_tools.faults import Fault
 from lcrq_tools.records import Actor, Counts, Place, Step, content_of, is_made
 from lcrq_tools.speak.sentences import Seen, of_actor, of_step
@@ -166,7 +167,26 @@ class Replies:
         if linked != [name for name in chain if name in linked]:
             return f"the segments are in the order {linked}, and their links lead along {chain}"
         named = {"0.0", *self.nexts.values(), self.contents["qhead"], self.contents["qtail"]}
-        return "" if {*apart} == {*self.nexts} - named else f"the segments {apart} are shown as never linked"
+        unlinked = ({*self.nexts} - named) & {*wanted}
+        return "" if {*apart} == unlinked else f"the segments {apart} are shown as never linked"
+
+    def drawn_fault(self, state: Mapping[str, Any]) -> str:
+        """Which place or segment of a page's moment isn't as the program replies, or is missing there, or nothing. Of
+        long lists some segments are counted, and slots of the array that nobody used are left out."""
+        linked, apart = ([name for name in state[part] if isinstance(name, str)] for part in ("linked", "apart"))
+        wanted = places_of([*linked, *apart], self.ring)
+        drawn = {place for place in wanted if not place.startswith(("whole ", "value ", "index "))}
+        used = {place for place, content in self.contents.items() if place.startswith("acell ") and content != "empty"}
+        for place in sorted({*drawn, *used, "ahead", "atail", *state["places"]}):
+            content, other = state["places"].get(place), self.contents.get(place)
+            if content != other:
+                return f"{place} is {content}, and {other} as the program replies"
+        halves = [half for place in state["places"] for half in lanes_of(Place.read(place), ())]
+        marks = self.marks_fault([*halves, *(f"whole {name}" for name in [*linked, *apart])], state["written"])
+        left_out = len(self.nexts) - len(linked) - len(apart)
+        if left_out != sum(count for count in [*state["linked"], *state["apart"]] if isinstance(count, int)):
+            return f"{left_out} segments are left out of {state['linked']} and {state['apart']}"
+        return marks or self.segments_fault(linked, apart, [*linked, *apart] if left_out else [*self.nexts])
 
     def actors_fault(self, calls: Mapping[int, Call]) -> str:
         """Which actor has another call than replied, or nothing."""
@@ -218,4 +238,4 @@ def told_by(words: list[str], lines: Sequence[str]) -> list[str]:
         teller = Teller(driven.ask_all)
         spoken = [teller.tell(line) for line in lines]
     texts = [of_step(each.seen) if each.seen else each.sentence.removeprefix("refused: ") for each in spoken]
-    return [f"{text[:1].upper()}{text[1:]}{'' if text.endswith('?') else '.'}" for text in texts]
+    return [f"{text[:1].upper()}{text[1:]}{'' if text.endswith(('?', '.')) else '.'}" for text in texts]

@@ -19,7 +19,6 @@ import random
 import re
 import tempfile
 from collections.abc import Iterator
-from html import unescape
 from pathlib import Path
 from typing import Any
 
@@ -28,11 +27,10 @@ from lcrq_tools.checks import histories, pictures, replies
 from lcrq_tools.checks.histories import Run
 from lcrq_tools.checks.random_scripts import LONG, MARKED, drawing_words, random_script
 from lcrq_tools.checks.replies import Call, Replies
-from lcrq_tools.draw.lanes import lanes_of
+from lcrq_tools.draw.boxes import SLOTS
 from lcrq_tools.faults import Fault
 from lcrq_tools.history import History
 from lcrq_tools.page import page, page_parts
-from lcrq_tools.records import Place
 
 STEPS = 60  # the lines of a run at random
 EACH = 6  # of how many moments of such a run one is compared
@@ -79,48 +77,16 @@ def states_in(text: str) -> tuple[Data, list[State]]:
     return data, states
 
 
-def labels_in(text: str) -> dict[int, str]:
-    """The words of each row."""
-    return {int(row): unescape(words) for row, words in re.findall(r'data-row="(\d+)"[^>]* data-about="([^"]*)"', text)}
-
-
 # ---- The same moments, asked in another way -------------------------------------------------------
 
 
-def linked_in(state: State) -> list[str]:
-    """The linked segments that a state has; others of a long list are counted."""
-    return [name for name in state["linked"] if isinstance(name, str)]
-
-
-def places_wanted(states: list[State], ring: int) -> set[str]:
-    """The places that a page has to know, and those that it knows."""
-    names = {name for state in states for name in (*linked_in(state), *state["apart"])}
-    wanted = {place for place in replies.places_of(names, ring) if not place.startswith(("whole ", "value ", "index "))}
-    return {"ahead", "atail", *wanted, *(place for state in states for place in state["places"])}
-
-
-def places_fault(state: State, asked: Replies, names: set[str]) -> str:
-    """Which of these places or which segment isn't as the program replies, or nothing."""
-    known = {place: content for place, content in state["places"].items() if content}
-    for place in names:
-        content, wanted = known.get(place), asked.contents.get(place)
-        if content != wanted:
-            return f"{place} is {content}, and {wanted} as the program replies"
-    kept = [name for name in asked.nexts if f"next {name}" in names]
-    halves = [half for place in known for half in lanes_of(Place.read(place), ())]
-    marks = asked.marks_fault([*halves, *(f"whole {name}" for name in kept)], state["written"])
-    return marks or asked.segments_fault(linked_in(state), state["apart"], kept)
-
-
-def room_fault(state: State, rooms: list[str]) -> str:
-    """Which segment has no place on the page that is in its order, or nothing."""
-    left, end = [*rooms], 0
-    for name in (name if isinstance(name, str) else "gap" for name in state["linked"]):
-        if name not in rooms[end:]:
-            return f"there is no room for {name} in the order {state['linked']}: {rooms}"
-        end = rooms.index(name, end) + 1
-        left[end - 1] = ""
-    return next((f"there is no room for {name} beside {rooms}" for name in state["apart"] if name not in left), "")
+def array_fault(state: State) -> str:
+    """Which slot with a value or a counter is not among those of the array that are shown, or nothing."""
+    places, ends = state["places"], [int(state["places"][name]) for name in ("ahead", "atail")]
+    used = [slot for slot in range(SLOTS) if places.get(f"acell {slot}", "empty") != "empty"]
+    used += ends if used or any(ends) else []
+    first, last = state["array"] or (SLOTS + 1, 0)
+    return "".join(f"slot {slot} is not in {state['array']}" for slot in used if not first <= slot <= last)
 
 
 def actors_fault(state: State, asked: Replies) -> str:
@@ -131,37 +97,48 @@ def actors_fault(state: State, asked: Replies) -> str:
     })
 
 
-def rows_fault(data: Data, state: State, labels: dict[int, str], asked: Replies, words: list[str]) -> str:
+def rows_fault(data: Data, state: State, asked: Replies, words: list[str]) -> str:
     """Which step isn't as a run of these words replies, or nothing."""
-    counts = state["live"], len(state["rows"]) - state["live"]
-    if counts != (asked.live, asked.undone):
-        return f"{counts} steps are live and undone, and {asked.live} and {asked.undone} as the program replies"
-    steps = list(zip(state["rows"], replies.labels_along(words, asked.steps)))[data["above"]:]
-    wrong = ((row, label) for row, label in steps if re.sub(r"^viewer \d+, ", "", labels[row]) != f"{label}.")
-    return next((f"row {row} is {labels[row]}, wanted {label}" for row, label in wrong), "")
+    counts, listed = (state["live"], state["undone"]), state["rows"]
+    if counts != (asked.live, asked.undone) or len(listed) != sum(counts) - data["above"]:
+        return f"{counts} steps are live and undone in {listed}, and {asked.live}, {asked.undone} as the program says"
+    last = asked.steps[asked.live - 1].event.actor if asked.live else 0
+    if state["by"] != last or asked.live > data["above"] and state["last"] != listed[asked.live - data["above"] - 1]:
+        return f"the last step is {state['last']} of {state['by']}, and of {last} as the program replies"
+    pairs = zip(listed, replies.labels_along(words, asked.steps)[data["above"]:])
+    rows = ((row, data["rows"][str(row)]["about"], label) for row, label in pairs)
+    return next((f"row {row} is {about}, wanted {label}" for row, about, label in rows if about != label), "")
+
+
+def words_fault(state: State, line: str, reply: str, told: str) -> str:
+    """What of a line and its words isn't as the program replies, or nothing."""
+    found = (state["text"], state["reply"], state["words"])
+    if found != (line, reply, told) or f"{line}: {reply}. {told}" not in state["said"]:
+        return f"it says {found} and {state['said']}, wanted {line}: {reply}. {told}"
+    why = told if reply.startswith("refused ") else ""
+    is_so = state["why"].rstrip(".").lower() == why.rstrip(".").lower()
+    return "" if is_so else f"it says {state['why']}, wanted {why}"
 
 
 def state_fault(text: str, arguments: argparse.Namespace, each: int) -> str:
     """The first thing that is wrong with the data of a page, or nothing."""
     data, states = states_in(text)
-    labels, run = labels_in(text), page.asked_of(arguments)
-    names, rooms = places_wanted(states, run.session.ring), re.findall(r'data-name="([^"]*)"', text)
-    segments = {Place.read(place).segment for place in names} - {""}
-    slots = [place for place in names if place.startswith("a")]
+    run = page.asked_of(arguments)
     told, given = replies.told_by(run.session.words, run.lines), run.session.replies_to(run.lines)
     for index in sorted({*range(0, len(states), each), len(states) - 1}):
         state, line = states[index], data["first"] + index
         session = run.at(line)
         trace = replies.trace_of(session)
         with replies.loaded(arguments.program, trace) as ask:
-            asked = Replies(ask, session, segments | replies.segments_of(trace), slots)
-        said = f"{run.text(line)}: {given[line - 1]}. {told[line - 1]}" if index else f"{asked.live} live steps"
+            asked = Replies(ask, session, replies.segments_of(trace), replies.array())
+        begun = "" if f"{asked.live} live steps" in state["said"] else f"it says {state['said']}"
         fault = (
-            places_fault(state, asked, names)
-            or room_fault(state, rooms)
+            asked.drawn_fault(state)
+            or array_fault(state)
             or actors_fault(state, asked)
-            or rows_fault(data, state, labels, asked, session.words)
-            or ("" if said in state["said"] else f"it says {state['said']}, wanted {said}")
+            or rows_fault(data, state, asked, session.words)
+            or (words_fault(state, run.text(line), given[line - 1], told[line - 1]) if index else begun)
+            or ("" if state["line"] == line else f"it is line {state['line']}")
         )
         if fault:
             return f"line {line}: {fault}"
@@ -170,24 +147,14 @@ def state_fault(text: str, arguments: argparse.Namespace, each: int) -> str:
 
 # ---- Viewers --------------------------------------------------------------------------------------
 
-# A line of the list, a row of the steps and the name of a viewer, with the numbers of viewers in each.
-MARK = r'<use href="#viewer-(\d+)"'
-LINE = re.compile(rf'<span class="no">(\d+)</span><svg class="asker" role="img" aria-label="viewer (\d+)">{MARK}/>')
-ROW = re.compile(r'<g class="row [^>]*data-row="(\d+)"[^>]*data-about="(?:viewer (\d+), )?actor .*?</g>')
-NAMED = re.compile(rf'<li data-viewer="(\d+)">.*?{MARK}.*?<span>viewer (\d+)</span></li>')
-
-
 def lines_fault(text: str, asked: History) -> str:
-    """Which line has the mark of another viewer than who asked it, or isn't said to be of that viewer, or
-    nothing."""
+    """Which line has another viewer than who asked it, or isn't said to be of that viewer, or nothing."""
     data, states = states_in(text)
-    first, found = data["first"], LINE.findall(text)
-    wanted = [0, *asked.viewers][first: first + len(states)]
-    if found != [(str(line), str(viewer), str(viewer)) for line, viewer in enumerate(wanted, first) if viewer]:
-        return f"the lines have the marks {found}, wanted {wanted}"
-    if data["viewers"] != wanted:
-        return f"the data have the viewers {data['viewers']}, wanted {wanted}"
-    begins = [f"Line {line}, viewer {viewer}, " for line, viewer in enumerate(wanted, first)]
+    wanted = [0, *asked.viewers][data["first"]: data["first"] + len(states)]
+    found = [state["viewer"] for state in states]
+    if found != wanted:
+        return f"the lines have the viewers {found}, wanted {wanted}"
+    begins = [f"Line {state['line']}, viewer {viewer}, " for state, viewer in zip(states, wanted)]
     pairs = [*zip((state["said"] for state in states), begins)][1:]
     return next((f"it says {said}" for said, begin in pairs if not said.startswith(begin)), "")
 
@@ -202,24 +169,23 @@ def askers_wanted(text: str, arguments: argparse.Namespace, run: Run) -> dict[in
         if fresh and line > data["first"] and ": ok " in state["said"]:
             wanted[fresh[0]] = run.calls.viewers[line - 1]
         elif fresh:
-            viewers = zip(state["rows"], histories.viewers_after(line, arguments, run))
+            viewers = zip(state["rows"], histories.viewers_after(line, arguments, run)[data["above"]:])
             wanted |= {row: viewer for row, viewer in viewers if row in fresh}
     return wanted
 
 
 def askers_fault(text: str, wanted: dict[int, int]) -> str:
-    """Which step has the mark of another viewer than who asked it, or is said to be of another one, or which
-    mark has no name, or nothing."""
-    used = {*states_in(text)[0]["viewers"]}
-    for found in ROW.finditer(text):
-        viewer, said = wanted[int(found[1])], int(found[2] or 0)
-        marks = [*map(int, re.findall(MARK, found[0]))]
-        if said != viewer or marks != [viewer] * bool(viewer):
-            return f"row {found[1]} is of viewer {viewer}, has the marks {marks} and says {said}"
-        used.add(viewer)
-    named = NAMED.findall(text)
-    wanted_names = [(str(viewer),) * 3 for viewer in sorted(used - {0})]
-    return "" if named == wanted_names else f"the viewers {used} are named as {named}"
+    """Which step has another viewer than who asked it, or which viewer has no name or no mark, or nothing."""
+    data, states = states_in(text)
+    found = {int(row): about["viewer"] for row, about in data["rows"].items()}
+    if found != {row: wanted[row] for row in found}:
+        return f"the rows have the viewers {found}, wanted {wanted}"
+    used = {*found.values(), *(state["viewer"] for state in states)} - {0}
+    names = {str(viewer): f"viewer {viewer}" for viewer in used}
+    marks = {viewer: mark[1] for viewer, mark in data["marks"]["of"].items()}
+    if data["names"] != names or marks != {str(viewer): f"V{viewer}" for viewer in used}:
+        return f"the viewers {used} have the names {data['names']} and the marks {marks}"
+    return ""
 
 
 # ---- The checks -----------------------------------------------------------------------------------

@@ -10,7 +10,7 @@ from typing import Any
 from lcrq_tools.checks import replies
 from lcrq_tools.checks.moments import labels_wanted
 from lcrq_tools.checks.replies import Call
-from lcrq_tools.page import run_states
+from lcrq_tools.page.asked import Asked
 
 Shown = dict[str, Any]  # what the page shows, as a function of browser.js returns it
 Node = dict[str, Any]  # of the accessibility tree: its role, its name and more
@@ -19,13 +19,13 @@ Node = dict[str, Any]  # of the accessibility tree: its role, its name and more
 class Moment(replies.Replies):
     """What the program replies after so many lines of a script."""
 
-    def __init__(self, run: run_states.Asked, line: int) -> None:
+    def __init__(self, run: Asked, line: int) -> None:
         session = run.at(line)
         segments = replies.segments_of(replies.trace_of(session))
         super().__init__(session.ask, session, segments, replies.array())
         self.line, self.text, self.reply, self.viewer = line, "", "", ""
         if line:
-            self.text, self.reply = run.text(line), session.replies_to([])[-1]
+            self.text, self.reply = run.text(line), session.replies_to(session.lines)[-1]
             self.viewer = f"viewer {session.viewers[-1]}" if session.viewers else ""
         self.labels = replies.labels_along(session.words, self.steps)
         self.told = replies.told_by(session.words, session.lines)[-1] if line else ""
@@ -137,7 +137,7 @@ def words_fault(shown: Shown, asked: Moment, tree: list[Node], last_line: int) -
     for part, text in wanted.items():
         if shown[part] != text:
             return f"the {part} is {shown[part]}, wanted {text}"
-    if asked.reply.startswith("refused ") and f"{shown['why'][0]}.".lower() != f"{asked.told.rstrip('.')}.".lower():
+    if asked.reply.startswith("refused ") and shown["why"][0].rstrip(".").lower() != asked.told.rstrip(".").lower():
         return f"the line is {asked.reply}, and the page says {shown['why']}"
     if f"| head -n {asked.line} " not in f"| {shown['command']}":
         return f"the command is {shown['command']}"

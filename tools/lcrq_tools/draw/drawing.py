@@ -1,7 +1,6 @@
 """Draws a picture of a run as SVG for `picture.py`, by its layout in `lanes.py`.
 
-`picture.py` says what a picture shows. `page_lanes.py` draws lanes and steps with the same functions. The same
-picture gives the same bytes.
+`picture.py` says what a picture shows. The same picture gives the same bytes.
 """
 
 from collections.abc import Iterator
@@ -37,7 +36,7 @@ def box_at(kind: str, x: float, y: float, width: float, height: float) -> Elemen
     return element("rect", class_=kind, x=x, y=y, width=width, height=height, **BOXES[kind])
 
 
-# ---- Lanes and steps, also of a page --------------------------------------------------------------
+# ---- Lanes and steps ------------------------------------------------------------------------------
 
 
 def dot_at(kind: str, x: float, y: float, colour: str) -> Element:
@@ -59,17 +58,17 @@ def words_beside(x: float, y: float, text: str, size: int, fill: str, ground: st
     return [box, words_at(x + 8, y + 4, text, size, fill, bold=bold)]
 
 
-def lane_heads(lanes: dict[str, int], y: int) -> Iterator[tuple[str, Element]]:
+def lane_heads(lanes: dict[str, int], y: int) -> Iterator[Element]:
     """What is above each lane: an actor or a cell at this height, and a place below its cell."""
     for lane, x in lanes.items():
         place = Place.read(lane)
         if place.kind == "value":
             middle = (x + lanes[str(place.half("index"))]) / 2
-            yield lane, words_at(middle, y, f"cell {place.index}", PLAIN, DARK, "middle")
+            yield words_at(middle, y, f"cell {place.index}", PLAIN, DARK, "middle")
         if band_of(lane):
-            yield lane, words_at(x, y + 16, name_of(lane), SMALL, GREY, "middle")
+            yield words_at(x, y + 16, name_of(lane), SMALL, GREY, "middle")
         else:
-            yield lane, words_at(x, y, lane, HEAD, colour_of(actor_of(lane))[1], "middle", True)
+            yield words_at(x, y, lane, HEAD, colour_of(actor_of(lane))[1], "middle", True)
 
 
 def lane_line(lane: str, x: int, top: int, bottom: int) -> Element:
@@ -123,7 +122,7 @@ def lane_lines(layout: Layout) -> Iterator[Element]:
         top = part.down + BAND_TOP + 15
         bands = [words_at(left + GAP, top, layout.heading_of(band), HEAD, DARK, bold=True)
                  for band, left, _ in layout.bands]
-        yield group("headings", [*bands, *(head for _, head in lane_heads(layout.lanes, part.down + 40))])
+        yield group("headings", [*bands, *lane_heads(layout.lanes, part.down + 40)])
 
 
 def dots_below(x: float, y: float, step: float, fill: str) -> list[Element]:

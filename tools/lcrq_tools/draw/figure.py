@@ -4,8 +4,8 @@ A figure's text is plain: no script, no font of its own, and a title and a descr
 """
 
 import argparse
+import functools
 import itertools
-import re
 from collections.abc import Callable, Iterable, Iterator, Sequence
 from contextlib import contextmanager
 from pathlib import Path
@@ -36,6 +36,7 @@ FONTS = "DejaVu Sans, Verdana, sans-serif"
 MARGIN = 16
 SMALL, PLAIN, HEAD = 10, 11, 12
 
+MOST_MEASURED = 1 << 14  # texts whose widths are kept
 MOST_CELLS = 64  # that are asked for, to see how many a ring has
 
 # How wide a letter is, as a part of the size, in a wide font; other letters are as wide as NORMAL.
@@ -152,6 +153,7 @@ def in_order(nexts: dict[str, str], ends: Sequence[str]) -> tuple[list[str], lis
 # ---- Elements of SVG ------------------------------------------------------------------------------
 
 
+@functools.lru_cache(MOST_MEASURED)
 def width_of(text: str, size: float, bold: bool = False) -> float:
     """How wide a text may be, as a wide font has it."""
     wide = sum(next((width for letters, width in WIDTHS.items() if letter in letters), NORMAL) for letter in text)
@@ -198,10 +200,9 @@ def group(kind: str, inside: Iterable[Element], **values: object) -> Element:
 
 
 def xml_of(root: Element) -> str:
-    """An element as ElementTree writes it, but that an empty one ends without a blank, and an empty text with a
-    tag of its own. As `>` is escaped, there is no other ` />`."""
-    text = ElementTree.tostring(root, "unicode")
-    return re.sub(r"(<text [^<>]*) />", r"\1></text>", text).replace(" />", "/>")
+    """An element as ElementTree writes it, but that an empty one ends without a blank. As `>` is escaped, there is no
+    other ` />`."""
+    return ElementTree.tostring(root, "unicode").replace(" />", "/>")
 
 
 def svg(title: str, about: str, width: float, height: float, inside: Iterable[Element]) -> str:

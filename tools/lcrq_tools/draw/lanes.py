@@ -84,10 +84,13 @@ class Row:
         self.fill(Actor.read(before[0]), zip(touched, map(content_of, before[1:]), map(content_of, after[1:])))
         self.seen = seen_of(self.step, Actor.read(before[0]), Actor.read(after[0]), replies[2 * end:], steps)
 
+    def about(self) -> str:
+        """The step in words, without its number and its viewer."""
+        return of_actor(self.seen) if self.seen else str(self.step.event)
+
     def words(self) -> str:
         """The step in words, without its number."""
-        asker = f"{viewer_name(self.viewer)}, " if self.viewer else ""
-        return f"{asker}{of_actor(self.seen) if self.seen else self.step.event}"
+        return f"{viewer_name(self.viewer)}, {self.about()}" if self.viewer else self.about()
 
 
 def row_of(step: Step, is_undone: bool = False) -> Row:
@@ -191,31 +194,54 @@ def band_of(lane: str) -> str:
 # ---- Where everything is --------------------------------------------------------------------------
 
 
-def room_of(lane: str, rows: Collection[Row], start: str) -> tuple[float, float]:
-    """How much room a lane needs at its left and its right, for its name, the words of these rows, and what is
-    there before them."""
-    if not actor_of(lane):
-        texts = [start, *(dot.text for row in rows for dot in row.dots if dot.lane == lane)]
-        half = width_of(name_of(lane), SMALL) / 2 + 2
-        return max(half, 12), max([half, *(width_of(text, SMALL, True) + 10 for text in texts)])
-    own = [row for row in rows if actor_lane(row.actor()) == lane]
-    half = width_of(lane, HEAD, True) / 2 + 2
-    lefts = (width_of(text, PLAIN) + 16 for text in (start, *(row.point for row in own)))
-    return max([half, *lefts]), max([half, *(width_of(row.step.reply, PLAIN, True) + 14 for row in own)])
+def least_of(lane: str) -> tuple[float, float]:
+    """How much room a lane needs at its left and its right for its name."""
+    half = (width_of(lane, HEAD, True) if actor_of(lane) else width_of(name_of(lane), SMALL)) / 2 + 2
+    return (half, half) if actor_of(lane) else (max(half, 12), half)
+
+
+class Widths:
+    """How much room each lane needs at its left and its right: for its name, for what is there before the first row,
+    and for the words of the rows that were taken."""
+
+    def __init__(self, start: Mapping[str, str], rows: Iterable[Row] = ()) -> None:
+        self.rooms: dict[str, tuple[float, float]] = {}
+        for lane, text in start.items():
+            is_left = actor_of(lane) > 0
+            self.widen(lane, width_of(text, PLAIN) + 16 if is_left else 0, 0 if is_left else self.beside(text))
+        for row in rows:
+            self.take(row)
+
+    def beside(self, text: str) -> float:
+        """The room of a text beside a dot."""
+        return width_of(text, SMALL, True) + 10
+
+    def take(self, row: Row) -> None:
+        """Makes room for the words of a row too."""
+        reply = width_of(row.step.reply, PLAIN, True) + 14
+        self.widen(actor_lane(row.actor()), width_of(row.point, PLAIN) + 16, reply)
+        for dot in row.dots:
+            self.widen(dot.lane, 0, self.beside(dot.text))
+
+    def widen(self, lane: str, left: float, right: float) -> None:
+        """Gives a lane this room at least."""
+        before, after = self.of(lane)
+        self.rooms[lane] = max(before, left), max(after, right)
+
+    def of(self, lane: str) -> tuple[float, float]:
+        """The room of a lane."""
+        return self.rooms.get(lane) or least_of(lane)
 
 
 class Across:
     """Where the lanes of some rows and the bands around them are, from the left to the right."""
 
-    def __init__(
-        self, lanes: Iterable[str], rows: Collection[Row], start: Mapping[str, str], left: float,
-        apart: Collection[str] = (),
-    ) -> None:
+    def __init__(self, lanes: Iterable[str], widths: Widths, left: float, apart: Collection[str] = ()) -> None:
         self.apart, self.right = apart, left
         self.lanes: dict[str, int] = {}
         self.bands: list[tuple[str, int, int]] = []
         for band, inside in itertools.groupby(lanes, band_of):
-            self.put_band(band, {lane: room_of(lane, rows, start.get(lane, "")) for lane in inside})
+            self.put_band(band, {lane: widths.of(lane) for lane in inside})
 
     def put_band(self, band: str, rooms: dict[str, tuple[float, float]]) -> None:
         """Puts the lanes of a band, which need this room, behind all others."""
@@ -256,7 +282,8 @@ class Layout(Across):
         self.numbers = MARGIN + max(width_of(name, SMALL, True) for name in names)
         self.marks = width_of_marks(viewers)  # the room for viewers' marks, at the right of the numbers
         left = self.numbers + 8 + (self.marks + 4 if self.marks else 0)
-        super().__init__(picture.lanes, picture.rows, picture.start if picture.start_name else {}, left, picture.apart)
+        widths = Widths(picture.start if picture.start_name else {}, picture.rows)
+        super().__init__(picture.lanes, widths, left, picture.apart)
         self.width = round(max(self.right + MARGIN, 420.0, words + 2 * MARGIN))
         self.rows: list[int] = []
         self.breaks: list[int] = []

@@ -63,9 +63,9 @@ def is_dark(viewer: int) -> bool:
     return (viewer - 1) // len(FRAMES) % 2 == 1
 
 
-def mark_at(viewer: int, x: float, y: float, dark: str = DARK, light: str = GROUND) -> Element:
-    """A viewer's mark around this point, in these two colours."""
-    words, ground = (light, dark) if is_dark(viewer) else (dark, light)
-    frame = element("path", d=outline(viewer, x, y), fill=ground, stroke=dark, stroke_width=1.2)
+def mark_at(viewer: int, x: float, y: float) -> Element:
+    """A viewer's mark around this point."""
+    words, ground = (GROUND, DARK) if is_dark(viewer) else (DARK, GROUND)
+    frame = element("path", d=outline(viewer, x, y), fill=ground, stroke=DARK, stroke_width=1.2)
     label = words_at(x, y + 3.6, label_of(viewer), SMALL, words, "middle", True)
     return group("viewer", [frame, label], data_viewer=viewer)

@@ -6,8 +6,8 @@ SCRIPT is run by the built program. The file needs nothing else: no network and 
 
 Of each line the page shows the reply, why it is refused if it is, the queue with the place that each
 actor's next step would touch, the steps as lanes with a border between live and undone ones, and
-the pseudo-code of docs/MODEL.md with the actors at their lines. The right and the left arrow go a
-line on and back, Home and End to the ends; a slider and a click on a line do too. `#line=14` in the
+the pseudo-code of docs/MODEL.md with the actors at their lines. The right and the left arrow, or PageDown and
+PageUp, go a line on and back, Home and End to the ends; a slider and a click on a line do too. `#line=14` in the
 address leads to a moment. What each line did is said in a sentence (`teller.py`). `copy` gives the
 command that shows the same by the program. Printed it is a handout: lines with replies, and the queue
 at the line that is shown and at each bookmark. On the page of a history each line and each step has
@@ -19,47 +19,54 @@ The same input gives the same bytes.
 """
 
 import argparse
-import json
 import shlex
+from collections.abc import Sequence
+from dataclasses import replace
 from html import escape
 from pathlib import Path
 from string import Template
 
-from lcrq_tools import model
-from lcrq_tools.draw.figure import ACTORS, kind_of, script_name, write_drawn
-from lcrq_tools.draw.lanes import actor_of
+from lcrq_tools.draw.figure import kind_of, script_name, write_drawn
+from lcrq_tools.draw.lanes import Row, Widths, actor_of
 from lcrq_tools.faults import Fault
 from lcrq_tools.options import run_parser, settled
-from lcrq_tools.page import page_lanes, page_moments, page_parts, slides
-from lcrq_tools.page.page_lanes import Lanes
-from lcrq_tools.page.page_viewers import Marks
-from lcrq_tools.page.run_rows import Rows, filled_rows
-from lcrq_tools.page.run_states import Asked, State, states_of
+from lcrq_tools.order import common_of
+from lcrq_tools.page import page_data, page_lanes, page_parts, slides
+from lcrq_tools.page.asked import Asked
+from lcrq_tools.page.page_data import Data
+from lcrq_tools.page.mirror import Mirror, State
+from lcrq_tools.program import Broken
 from lcrq_tools.records import stand_of
 
 MOST_LINES, MOST_ROWS = 400, 800
 PARTS = Path(__file__).resolve().parent
+STYLES = ("page.css", "page_viewers.css")
+SCRIPTS = ("page_parts.js", "page_queue.js", "page_actors.js", "page_lanes.js", "page_viewers.js", "page.js")
 
 
 # ---- Which rows are shown -------------------------------------------------------------------------
 
 
-def above_of(states: list[State], rows: Rows) -> int:
+def above_of(states: Sequence[State]) -> int:
     """How many steps stand above the first row: none of a short run. Those are live at all moments,
     and come before all others."""
-    if not states[0].line and len(rows.made) <= MOST_LINES:
+    if not states[0].line and len({step for state in states for step in state.rows}) <= MOST_LINES:
         return 0
-    lists = [state.rows[: state.live] for state in states]
-    return next((count for count, same in enumerate(zip(*lists)) if len({*same}) > 1), min(map(len, lists)))
+    first = states[0].rows[: states[0].live]
+    return min(common_of(first, state.rows[: state.live]) for state in states)
 
 
-def shown_rows(states: list[State], rows: Rows, above: int) -> list[int]:
-    """The rows that are shown."""
-    left_out = {*states[0].rows[:above]}
-    shown = [row for row in range(len(rows.made)) if row not in left_out]
+def shown_rows(mirror: Mirror, states: Sequence[State]) -> dict[int, Row]:
+    """The rows that are shown at these moments of a run."""
+    shown = dict.fromkeys(step for state in states for step in state.rows)
     if len(shown) > MOST_ROWS:
         raise Fault(f"these lines make or move {len(shown)} steps, and a page takes {MOST_ROWS}: --lines A:B cuts them")
-    return shown
+    rows, missing = {**mirror.rows}, shown.keys() - mirror.rows.keys()
+    if missing:
+        with mirror.begin_again() as begin:
+            begin.fill_rows(begin.state, missing)
+            rows |= begin.rows
+    return {step: rows[step] for step in shown}
 
 
 def start_of(asked: Asked, lanes: list[str], above: int) -> dict[str, str]:
@@ -87,19 +94,6 @@ def command_of(arguments: argparse.Namespace) -> list[str]:
     return [f"grep '^[0-9]' {name} | head -n ", f" | cut -d ' ' -f 2- | {shlex.join(words)}"]
 
 
-def handout_of(states: list[State]) -> list[int]:
-    """The moments that a handout shows beside that of the line on the screen: those of bookmarks."""
-    return [index for index, state in enumerate(states) if state.reply.startswith("marked ")]
-
-
-def data_of(fields: dict[str, object], moments: list[dict[str, object]]) -> str:
-    """The page's data as JSON without spaces, a moment a line."""
-    compact = json.JSONEncoder(separators=(",", ":")).encode
-    lines = ",\n".join(map(compact, moments))
-    text = compact(fields).removesuffix("}") + f',"moments":[\n{lines}\n]}}'
-    return text.replace("<", "\\u003c")
-
-
 def asked_of(arguments: argparse.Namespace) -> Asked:
     """The run that a page is asked for."""
     part: tuple[int, int] | None = arguments.part
@@ -110,64 +104,46 @@ def asked_of(arguments: argparse.Namespace) -> Asked:
     return asked
 
 
+def run_of(arguments: argparse.Namespace, asked: Asked, mirror: Mirror) -> Data:
+    """The data of the page of the moments that were followed."""
+    above = above_of(mirror.states)
+    states = [replace(state, above=above, rows=state.rows[above:]) for state in mirror.states]
+    drawn = shown_rows(mirror, states)
+    lanes = page_lanes.in_order(page_lanes.lanes_of_rows(drawn.values()), mirror.chain())
+    name = f"after {above}" if above else "start" if arguments.trace else ""
+    start = start_of(asked, lanes, above) if name else {}
+    viewers = page_data.named_viewers(states, drawn.values())
+    layout = page_lanes.layout_of(lanes, Widths(start, drawn.values()), viewers, start, name)
+    given: Data = {
+        "title": f"{script_name(arguments)}, {asked.session.world()}", "ring": asked.session.ring,
+        "command": command_of(arguments),
+    }
+    return page_data.run_of(given, states[0], drawn, layout, viewers) | page_data.moments_of(states)
+
+
+def page_with(run: Data, **more: str) -> str:
+    """The page of a run, with more in some of its places."""
+    style = [page_parts.colours(), *map(text_in, STYLES)]
+    return Template(text_in("page.html")).substitute(
+        {"kind": "stored", "nonce": "", "toolbar": "", "more_style": "", "more_script": ""}
+        | {"title": escape(str(run["title"])), "style": "\n".join(style), "script": "\n".join(map(text_in, SCRIPTS))}
+        | {"data": page_data.text_of(run)} | more
+    )
+
+
 def page_of(arguments: argparse.Namespace) -> tuple[str, str]:
     """The page that is asked for, and what to say of refused lines."""
     asked = asked_of(arguments)
     count = len(asked.lines) - asked.first
     if count > MOST_LINES:
         raise Fault(f"{count} lines are too many for a page: --lines A:B takes {MOST_LINES} of them, as 1:{MOST_LINES}")
-    states = states_of(asked)
-    return slides.slides_of(made_of(arguments, asked, states), arguments.slides, states), asked.session.refused
-
-
-def drawing_of(arguments: argparse.Namespace, asked: Asked, states: list[State], rows: Rows, above: int) -> Lanes:
-    """The drawing of the steps, of which so many stand above the first row."""
-    drawn, lanes = filled_rows(asked, states, rows, shown_rows(states, rows, above))
-    name = f"after {above}" if above else "start" if arguments.trace else ""
-    most = max(len(state.rows) for state in states) - above
-    marks = Marks({*(state.viewer for state in states), *(row.viewer for row in drawn.values())} - {0})
-    return Lanes(drawn, lanes, start_of(asked, lanes, above) if name else {}, name, most, marks)
-
-
-def fields_of(arguments: argparse.Namespace, states: list[State], above: int, figure: Lanes) -> dict[str, object]:
-    """The page's data, but for its moments."""
-    fields = {
-        "first": states[0].line, "above": above, "colours": len(ACTORS), "height": page_lanes.LINE,
-        "border": page_lanes.BORDER, "command": command_of(arguments), "handout": handout_of(states),
-        "rows": figure.dots(),
-    }
-    return fields | ({"viewers": [state.viewer for state in states]} if figure.marks.viewers else {})
-
-
-def made_of(arguments: argparse.Namespace, asked: Asked, states: list[State]) -> str:
-    """The page of these moments."""
-    text, rows = model.PAGE.read_text(encoding="utf-8"), Rows(states)
-    code, (steps, _) = model.lines_of(text), model.read(text)
-    chips = [page_moments.chips_of(state, code, steps) for state in states]
-    sentences = page_moments.sentences_of(states)
-    above = above_of(states, rows)
-    figure = drawing_of(arguments, asked, states, rows, above)
-    marks = figure.marks
-    moments = page_moments.differences_of(page_moments.whole_states(states, chips, sentences))
-    lines = (
-        page_parts.line_item(state, page_moments.reason_of(state), marks.in_line(state.viewer)) for state in states
-    )
-    return Template(text_in("page.html")).substitute(
-        title=escape(f"{script_name(arguments)}, {asked.session.world()}"),
-        style="\n".join([page_parts.colours(), page_parts.room(states, chips), text_in("page.css"), *marks.style()]),
-        script="\n".join([text_in("page.js"), *marks.script()]),
-        data=data_of(fields_of(arguments, states, above, figure), moments),
-        first=states[0].line, last=states[-1].line,
-        asker=marks.header(), viewers=marks.legend(),
-        lines="\n".join(lines),
-        longest=page_parts.sizers(sentences),
-        command=escape(str(states[-1].line).join(command_of(arguments))),
-        queue=page_parts.queue(states, asked.session.ring),
-        chips=page_parts.chips(chips, code), beside=page_parts.beside(chips),
-        idle=page_parts.idle(chips),
-        lanes=f"{figure.heads()}\n{figure.body()}", drawn=figure.drawn(),
-        code=page_parts.pseudo_code(chips, code),
-    )
+    session = asked.session
+    try:
+        with Mirror(session.words, asked.lines, session.viewers, asked.first) as mirror:
+            run = run_of(arguments, asked, mirror)
+    except (Broken, OSError) as fault:
+        raise Fault(f"the moments can't be asked for: {fault}") from fault
+    return page_with(run, **slides.parts_of(arguments.slides, mirror.states)), session.refused
 
 
 def text_in(name: str) -> str:

@@ -12,13 +12,21 @@
     }
   };
 
+  // The lanes are as wide as their room.
+  const fitLanes = () => {
+    const lanes = byId("lanes"), insides = [...lanes.children];
+    for (const inside of insides) inside.style.zoom = 1;
+    const size = lanes.clientWidth / byId("lane-heads").getBoundingClientRect().width;
+    for (const inside of insides) inside.style.zoom = size;
+  };
+
   const draw = () => {
     const { at, text, question } = slides[slide], room = byId("slide");
     show(shown === 2 ? at : at - 1);
     put(part(room, ".where"), `slide ${slide + 1} of ${slides.length}`);
-    put(part(room, ".typed code"), `${run.first + at}  ${text}`);
+    put(part(room, ".typed code"), `${page.run.first + at}  ${text}`);
     put(part(room, ".asked"), shown ? question : "");
-    put(part(room, ".told"), shown === 2 ? states[at].said : "");
+    put(part(room, ".told"), shown === 2 ? page.states[at].said : "");
     fit();
   };
 
@@ -45,8 +53,9 @@
     event.stopImmediatePropagation();
   }, true);
   addEventListener("hashchange", draw);
-  addEventListener("resize", fit);
+  addEventListener("resize", () => { fitLanes(); fit(); });
   const asked = /^#slide=(\d+)(?:\.([0-2]))?$/.exec(location.hash);
   if (asked) [slide, shown] = [Math.min(slides.length, Math.max(1, Number(asked[1]))) - 1, Number(asked[2] || 0)];
+  fitLanes();
   draw();
 }

@@ -13,7 +13,7 @@ from collections.abc import Sequence
 from pathlib import Path
 
 from lcrq_tools.faults import Fault
-from lcrq_tools.page.run_states import State
+from lcrq_tools.page.mirror import State
 
 STYLE, SCRIPT = (Path(__file__).with_suffix(ending) for ending in (".css", ".js"))
 # What is asked of a line, by its first word.
@@ -69,12 +69,11 @@ def chosen(lines: Sequence[int], states: list[State]) -> list[dict[str, object]]
     return [{"at": at, "text": it.asked(), "question": question_of(it.text)} for at, it in found]
 
 
-def slides_of(page: str, lines: Sequence[int] | None, states: list[State]) -> str:
-    """A page as slides of these lines; as it is, if none are chosen."""
+def parts_of(lines: Sequence[int] | None, states: list[State]) -> dict[str, str]:
+    """What makes a page slides of these lines; nothing, if none are chosen."""
     if not lines:
-        return page
+        return {}
     data = json.dumps(chosen(lines, states), separators=(",", ":")).replace("<", "\\u003c")
     style, script = (path.read_text(encoding="utf-8") for path in (STYLE, SCRIPT))
-    head, _, rest = page.partition("</style>\n</head>\n<body>\n")
-    end = f'<script type="application/json" id="slides">{data}</script>\n<script>\n{script}</script>\n</body>'
-    return f'{head}{style}</style>\n</head>\n<body class="slides">\n{ROOM}{rest}'.replace("</body>", end)
+    more = f'<script type="application/json" id="slides">{data}</script>\n<script>\n{script}</script>'
+    return {"kind": "slides", "toolbar": ROOM, "more_style": f"<style>\n{style}</style>", "more_script": more}

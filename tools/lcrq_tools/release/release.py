@@ -185,6 +185,7 @@ def examples_of(built: str, choice: Choice) -> dict[str, bytes]:
 
 NAMED = re.compile(r"(?<![\w/.-])(tools/)?(\w+\.py)\b")
 IMPORTED = re.compile(r"^ *from (lcrq_tools[\w.]*) import (?:\(([^)]*)\)|(.*))", re.MULTILINE)
+BESIDE = re.compile(r'"(\w+\.(?:js|css|html))"')  # a part of a page
 READ = re.compile(r'"docs" / "(\w+\.md)"')
 
 
@@ -196,12 +197,14 @@ def named_in(text: str) -> set[Path]:
 
 def needed_by(path: Path) -> list[Path]:
     """The files that a script of tools/ takes: its tool, and the modules that each imports, with what makes
-    their folders packages, and the other files of a module's name."""
+    their folders packages, the other files of a module's name, and those beside it that it names."""
     if path.parent == TOOLS:
         beside = [entry.file_of(entry.TOOLS[path.stem])] if path.stem in entry.TOOLS else []
     else:
         beside = [*path.parent.glob(f"{path.stem}.*"), path.parent / "__init__.py"]
-    for package, *names in IMPORTED.findall(path.read_text(encoding="utf-8")):
+    text = path.read_text(encoding="utf-8")
+    beside += [path.parent / name for name in BESIDE.findall(text)]
+    for package, *names in IMPORTED.findall(text):
         module = TOOLS.joinpath(*package.split("."))
         within = [module / f"{name}.py" for name in re.findall(r"\w+", " ".join(names))]
         beside += [module.with_suffix(".py"), module / "__init__.py", *within]

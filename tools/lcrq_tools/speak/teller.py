@@ -8,13 +8,16 @@ Only Python's standard library is used.
 import collections
 from collections.abc import Callable, Sequence
 from dataclasses import dataclass
+from typing import overload
 
 from lcrq_tools import manual
+from lcrq_tools.order import common_of
 from lcrq_tools.records import (
     NOTHING,
     Actor,
     Cell,
     Counts,
+    Event,
     Made,
     Place,
     Refusal,
@@ -145,14 +148,42 @@ def origin_words(said: Said) -> str:
     return f"step {take} took a value that was put {made}, by a call that began {begun}"
 
 
-def taken_from(before: Sequence[Step], after: Sequence[Step]) -> list[int]:
+class Steps(Sequence[Step]):
+    """The steps of a run. They are kept as texts, which take little room, and read when they are asked for."""
+
+    def __init__(self, texts: list[str]) -> None:
+        self.texts = texts  # of each what its reply has behind the number
+
+    def __len__(self) -> int:
+        return len(self.texts)
+
+    @overload
+    def __getitem__(self, place: int) -> Step: ...
+
+    @overload
+    def __getitem__(self, place: slice) -> "Steps": ...
+
+    def __getitem__(self, place: "int | slice") -> "Step | Steps":
+        if isinstance(place, slice):
+            return Steps(self.texts[place])
+        text = self.texts[place]
+        return Step.read(f"step {place % len(self.texts) + 1}; {text}")
+
+    def event(self, place: int) -> Event:
+        """The event of the step at this place, from 0 on."""
+        return Event.read(self.texts[place].partition("; ")[0])
+
+
+def taken_from(before: Steps, after: Steps) -> list[int]:
     """The numbers of the steps that were taken back: of each actor its last ones."""
-    kept = collections.Counter(step.event.actor for step in after)
+    same = common_of(before.texts, after.texts)
+    kept = collections.Counter(after.event(place).actor for place in range(same, len(after)))
     numbers = []
-    for number, step in enumerate(before, 1):
-        kept[step.event.actor] -= 1
-        if kept[step.event.actor] < 0:
-            numbers.append(number)
+    for place in range(same, len(before)):
+        actor = before.event(place).actor
+        kept[actor] -= 1
+        if kept[actor] < 0:
+            numbers.append(place + 1)
     return numbers
 
 
@@ -230,17 +261,19 @@ class Teller:
 
     def __init__(self, ask_all: Ask) -> None:
         self.ask_all = ask_all
-        self.live = self.steps(1, Counts.read(self.ask("len")).live)
+        self.live = Steps(self.steps(1, Counts.read(self.ask("len")).live))
+        self.marks: dict[str, list[str]] = {}  # of each bookmark that was set its steps, as texts
 
     def ask(self, line: str) -> str:
         """The reply to a line."""
         return self.ask_all([line])[0]
 
-    def steps(self, first: int, last: int) -> list[Step]:
-        """These live steps."""
+    def steps(self, first: int, last: int) -> list[str]:
+        """What these live steps did, as texts."""
         numbers = range(first, last + 1)
         parts = (numbers[begin:begin + AT_ONCE] for begin in range(0, len(numbers), AT_ONCE))
-        return [Step.read(reply) for part in parts for reply in self.ask_all([f"step {number}" for number in part])]
+        replies = (reply for part in parts for reply in self.ask_all([f"step {number}" for number in part]))
+        return [reply.partition("; ")[2] for reply in replies]
 
     def actor(self, number: int) -> Actor | None:
         """An actor, if there is one of this number."""
@@ -260,13 +293,15 @@ class Teller:
                 return Spoken(line, reply, self.why(line, refusal, number, before))
             case Counts() as counts if word != "len":
                 return Spoken(line, reply, self.moved(line, counts))
+            case Said("marked"):
+                self.marks[words[0]] = [*self.live.texts]
         return Spoken(line, reply, answered(line, read_reply(reply)))
 
     def seen(self, number: int, mover: int, before: Actor) -> Seen:
         """The step of this number, which an actor just made, with what is around it."""
         made, stand = self.ask_all([f"step {number}", f"actor {mover}"])
         step, after = Step.read(made), Actor.read(stand)
-        self.live[number - 1:] = [step]
+        self.live.texts[number - 1:] = [made.partition("; ")[2]]
         asked = asked_of(step)
         return seen_of(step, before, after, self.ask_all(asked) if asked else [], self.live)
 
@@ -284,10 +319,11 @@ class Teller:
         """What a line did that took steps back or made them again."""
         before, word, last = self.live, *line.partition(" ")[::2]
         if word == "undo" and last:
-            self.live = [*before[: int(last) - 1], *before[int(last):]]
+            self.live = Steps(before.texts[: int(last) - 1] + before.texts[int(last):])
             return self.back_words([int(last)], before)
         kept = {"goto": 0, "roll": int(last) - 1 if word == "roll" else 0}.get(word, min(len(before), counts.live))
-        self.live = [*before[:kept], *self.steps(kept + 1, counts.live)]
+        known = self.marks.get(last) if word == "goto" else None
+        self.live = Steps([*known] if known else before.texts[:kept] + self.steps(kept + 1, counts.live))
         if word == "goto":
             return f"goes to bookmark {last}: {counted(counts.live, 'step')} live"
         if word in ("redo", "forward"):
@@ -301,12 +337,12 @@ class Teller:
             return f"makes `{self.live[-1].event}` again, as step {len(self.live)}"
         return f"makes {counted(len(numbers), 'step')} again: {numbers_words(numbers)}" if numbers else "does nothing"
 
-    def back_words(self, numbers: Sequence[int], before: Sequence[Step]) -> str:
+    def back_words(self, numbers: Sequence[int], before: Steps) -> str:
         """What was taken back: steps of these numbers, of those that were live before."""
         if len(numbers) != 1:
             said = f"takes back {counted(len(numbers), 'step')}: {numbers_words(numbers)}"
             return said if numbers else "does nothing"
-        event = before[numbers[0] - 1].event
+        event = before.event(numbers[0] - 1)
         actor = self.actor(event.actor)
         stand = stand_words(event.actor, actor) if actor else ""
         return f"takes back step {numbers[0]}, `{event}`: {stand} again"

@@ -32,10 +32,9 @@ class Elements(unittest.TestCase):
         read = ElementTree.fromstring(made)
         self.assertEqual((read.text, read.attrib), ("a < b & c", {"data-place": 'cell "0"'}))
 
-    def test_only_an_empty_text_has_two_tags(self) -> None:
-        made = figure.group("row", [figure.element("text", "", x=1), figure.element("rect", data_place="a />", x=0.5)])
-        rect = '<rect data-place="a /&gt;" x="0.5"/>'
-        self.assertEqual(figure.xml_of(made), f'<g class="row"><text x="1"></text>{rect}</g>')
+    def test_an_empty_element_has_one_tag(self) -> None:
+        made = figure.group("row", [figure.element("rect", data_place="a />", x=0.5)])
+        self.assertEqual(figure.xml_of(made), '<g class="row"><rect data-place="a /&gt;" x="0.5"/></g>')
 
     def test_a_number_has_one_digit_after_the_point(self) -> None:
         self.assertEqual([figure.number(value) for value in (3.0, 2.25, 7, "x")], ["3", "2.2", "7", "x"])

@@ -8,7 +8,6 @@ from unittest import mock
 
 from lcrq_tools import history, program
 from lcrq_tools.draw import figure, moment, picture
-from lcrq_tools.draw.askers import AskedStep, Steps, last_of
 from lcrq_tools.faults import Fault
 from lcrq_tools.history import History, history_of
 from lcrq_tools.page import page
@@ -48,6 +47,9 @@ class Texts(unittest.TestCase):
         self.assertEqual(history_of("a", "64 len\n").viewers, (64,))
         self.assertEqual(history_of("a", "".join(f"{it} len\n" for it in range(1, 65))).viewers, tuple(range(1, 65)))
 
+    def test_what_is_kept_of_a_live_run_has_notes_and_calls_of_nobody(self) -> None:
+        self.assertEqual(history_of("a", "# lcrqdb\n0 len\n# seed 7\n2 undo\n"), History((0, 2), ("len", "undo")))
+
     def test_a_file_or_standard_input_is_read(self) -> None:
         with tempfile.TemporaryDirectory() as folder:
             path = Path(folder) / "a.history"
@@ -77,7 +79,7 @@ class Faults(unittest.TestCase):
         self.check_fault("\x1b[2J\xff\n", f"line 1: `\\x1b[2J\\xff` {what}")
 
     def test_a_number_that_is_no_viewer(self) -> None:
-        for number in ("0", "65", "01", "9" * 5000):
+        for number in ("00", "65", "01", "9" * 5000):
             shown = f"{number} len"[:history.SHOWN]
             self.check_fault(f"{number} len\n", f"line 1: `{shown}` is of no viewer: they are numbered from 1 to 64")
         wrong = "line 4: `3 len` is of no viewer: they are numbered from 1 to 2"
@@ -112,8 +114,8 @@ class Options(unittest.TestCase):
         self.check_fault(["--history", "nowhere"], "nowhere: No such file or directory")
         with tempfile.TemporaryDirectory() as folder:
             path = Path(folder) / "a.history"
-            path.write_text("0 len\n", encoding="ascii")
-            said = f"{path}: line 1: `0 len` is of no viewer: they are numbered from 1 to 64"
+            path.write_text("00 len\n", encoding="ascii")
+            said = f"{path}: line 1: `00 len` is of no viewer: they are numbered from 1 to 64"
             self.check_fault(["--history", str(path)], said)
         with mock.patch.object(program, "standard_input", lambda: b"len\n"):
             what = "is no call, which is a viewer's number and its line, as `2 go 1`"
@@ -136,54 +138,3 @@ class Options(unittest.TestCase):
             stdin.buffer.read.side_effect = [CALLS.encode(), b""]
             self.assertEqual((history.read("-"), history.read("-")), (READ, READ))
         program.standard_input.cache_clear()
-
-
-class Askers(unittest.TestCase):
-    """Who asked which step."""
-
-    def follow(self, steps: Steps, *rows: tuple[int, str, str], rolled: tuple[int, ...] = ()) -> list[int]:
-        """The viewers of the steps after these lines, each with its viewer and its reply."""
-        for viewer, line, reply in rows:
-            steps.follow(viewer, line, reply, rolled)
-        return steps.viewers()
-
-    def begun(self) -> Steps:
-        """Three steps of two actors, which viewers 1, 2 and 3 asked."""
-        steps = Steps([], [])
-        self.follow(steps, (1, "enq 1 7", "ok 1"), (2, "deq 2", "ok 2"), (3, "go 1", "ok 3"))
-        return steps
-
-    def test_a_step_belongs_to_the_viewer_of_its_line(self) -> None:
-        rows = [(4, "go 2", "refused 4 NeedsChoice"), (4, "len", "at 3 0")]
-        self.assertEqual(self.follow(self.begun(), *rows), [1, 2, 3])
-
-    def test_an_undone_step_stays_its_viewers(self) -> None:
-        steps = self.begun()
-        self.assertEqual(self.follow(steps, (4, "undo 2", "at 2 1")), [1, 3, 2])
-        self.assertEqual(self.follow(steps, (4, "undo", "at 1 2")), [1, 3, 2])
-        self.assertEqual(self.follow(steps, (4, "redo", "at 2 1")), [1, 3, 2])
-        self.assertEqual(self.follow(steps, (4, "back 2", "at 0 3")), [1, 3, 2])
-        self.assertEqual(self.follow(steps, (4, "forward 3", "at 3 0")), [1, 3, 2])
-        self.assertEqual(self.follow(steps, (5, "back 1", "at 2 1"), (5, "go 2", "ok 3")), [1, 3, 5])
-
-    def test_a_rollback_takes_the_last_steps_of_actors(self) -> None:
-        steps = self.begun()
-        self.assertEqual(last_of(steps.live, [1, 1]), [2, 0])
-        self.assertEqual(self.follow(steps, (4, "roll 1", "at 1 2"), rolled=(1, 1)), [2, 1, 3])
-        self.assertEqual((len(steps.live), len(steps.undone)), (1, 2))
-
-    def test_a_bookmark_keeps_the_viewers_of_its_steps(self) -> None:
-        steps = self.begun()
-        rows = [(4, "mark a", "marked 3"), (4, "undo", "at 2 1"), (5, "go 2", "ok 3"), (6, "goto a", "at 3 0")]
-        self.assertEqual(self.follow(steps, *rows), [1, 2, 3])
-        self.assertEqual(self.follow(steps, (6, "drop a", "dropped")), [1, 2, 3])
-        self.assertEqual(steps.marks, {})
-
-    def test_steps_of_the_start_belong_to_nobody(self) -> None:
-        steps = Steps([AskedStep(0, 1)], [AskedStep(0, 2)])
-        self.assertEqual(self.follow(steps, (1, "redo", "at 2 0"), (1, "go 1", "ok 3")), [0, 0, 1])
-        self.assertEqual(self.follow(steps, (1, "goto of-the-trace", "at 2 0")), [0, 0])
-
-    def test_counts_that_differ_are_a_fault(self) -> None:
-        with self.assertRaisesRegex(Fault, "^the steps can't be followed: `undo` is answered at 1 1$"):
-            self.follow(self.begun(), (1, "undo", "at 1 1"))

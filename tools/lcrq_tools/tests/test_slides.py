@@ -6,10 +6,10 @@ import re
 import unittest
 
 from lcrq_tools.faults import Fault
-from lcrq_tools.page import slides
-from lcrq_tools.page.run_states import State
+from lcrq_tools.page import page, page_data, slides
+from lcrq_tools.page.mirror import State
 
-PAGE = "<html>\n<head>\n<style>\np {}\n</style>\n</head>\n<body>\n<p>all</p>\n</body>\n</html>\n"
+RUN: page_data.Data = {"title": "a run", "moments": []}
 STATES = [State(0, "", "", 0, 0), State(1, "deq 1", "ok 1", 1, 0), State(2, "undo 1", "at 0 1", 0, 1)]
 
 
@@ -35,12 +35,12 @@ class Slides(unittest.TestCase):
             slides.chosen([1], STATES[:1])
 
     def test_a_page_without_chosen_lines_stays(self) -> None:
-        self.assertEqual(slides.slides_of(PAGE, None, STATES), PAGE)
+        self.assertEqual(slides.parts_of(None, STATES), {})
 
     def test_a_page_of_slides_has_all_parts(self) -> None:
-        made = slides.slides_of(PAGE, [2], STATES)
-        self.assertIn('<body class="slides">\n<section id="slide"', made)
-        self.assertIn("p {}\n@media screen", made)
-        found = re.search(r'id="slides">(.*?)</script>', made)
-        self.assertEqual(found and len(json.loads(found[1])), 1)
-        self.assertEqual((made.count("</body>"), made.count("</style>")), (1, 1))
+        made = page.page_with(RUN, **slides.parts_of([2], STATES))
+        self.assertEqual(made.count('<body class="slides">\n'), 1)
+        self.assertEqual((made.count('<section id="slide"'), made.count("#slide {")), (1, 2))
+        found = re.search(r'id="slides">(.*?)</script>\n<script>\n// Goes along the slides', made)
+        self.assertEqual(found and json.loads(found[1]), slides.chosen([2], STATES))
+        self.assertFalse('id="slide' in page.page_with(RUN).replace('id="slider"', ""))

@@ -7,9 +7,8 @@ from lcrq_tools.draw import boxes, drawing, queue_drawing, viewer_marks
 from lcrq_tools.draw.boxes import Moment, Segment
 from lcrq_tools.draw.figure import xml_of
 from lcrq_tools.draw.lanes import Dot, Layout, Picture, Row
-from lcrq_tools.page import page_parts
-from lcrq_tools.page.page_viewers import Marks
-from lcrq_tools.page.run_states import State
+from lcrq_tools.page import page_data, page_viewers
+from lcrq_tools.page.mirror import State
 from lcrq_tools.records import Cell, Event, Place, Step, Tail
 
 SVG = "{http://www.w3.org/2000/svg}"
@@ -105,20 +104,22 @@ class Pages(unittest.TestCase):
     """The marks of a page."""
 
     def test_a_page_of_a_script_has_none(self) -> None:
-        marks = Marks([])
-        self.assertEqual((marks.legend(), marks.header(), marks.style(), marks.script()), ("", "", [], []))
-        self.assertEqual((marks.in_line(0), marks.in_row(0, 9.0)), ("", []))
+        self.assertEqual(page_viewers.marks_of([]), {"wide": 0.0, "high": viewer_marks.HIGH, "of": {}})
 
-    def test_a_screen_reader_hears_a_viewer(self) -> None:
-        marks, state = Marks([2, 1]), State(3, "go 1", "ok 3", 3, 0, viewer=2)
-        item = page_parts.line_item(state, "", marks.in_line(2))
-        mark = '<svg class="asker" role="img" aria-label="viewer 2"><use href="#viewer-2"/></svg>'
-        self.assertIn(f"{mark}<code>go 1</code>", item)
-        self.assertEqual(state.asked(), "viewer 2, go 1")
+    def test_each_viewer_has_a_mark_of_its_own(self) -> None:
+        marks = page_viewers.marks_of([9, 1])
+        of = marks["of"]
+        assert isinstance(of, dict)
+        self.assertEqual([(viewer, label, is_dark) for viewer, (_, label, is_dark) in of.items()], [
+            ("1", "V1", False), ("9", "V9", True),
+        ])
+        self.assertEqual(of["1"][0], viewer_marks.outline(1, 0.0, 0.0))
+        self.assertEqual(marks["wide"], round(viewer_marks.width_of_marks([1, 9]), 1))
+
+    def test_a_line_is_named_with_its_viewer(self) -> None:
+        self.assertEqual(State(3, "go 1", "ok 3", 3, 0, viewer=2).asked(), "viewer 2, go 1")
         self.assertEqual(State(3, "go 1", "ok 3", 3, 0).asked(), "go 1")
 
-    def test_the_list_of_viewers_names_each_mark(self) -> None:
-        legend = Marks([2, 1]).legend()
-        for viewer in (1, 2):
-            self.assertEqual(legend.count(f'<symbol id="viewer-{viewer}"'), 1)
-            self.assertIn(f'<use href="#viewer-{viewer}"/></svg><span>viewer {viewer}</span></li>', legend)
+    def test_those_who_asked_a_line_or_a_step_alone_are_named(self) -> None:
+        states = [State(0, "", "", 0, 0), State(1, "len", "at 0 0", 0, 0, viewer=3)]
+        self.assertEqual(page_data.named_viewers(states, picture(1, 0, 3).rows), [1, 3])
