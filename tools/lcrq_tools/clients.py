@@ -1,5 +1,5 @@
-"""Plays the clients of `lcrqdb view --live` for checks and measurements: each writes the lines of its viewer into a
-pipe, and reads the replies from another one.
+"""Plays the clients of `lcrqdb view --live` for `live.py`, checks and measurements: each writes the lines of its viewer
+into a pipe, and reads the replies from another one.
 
 A viewer opens FILE for reading, then FILE.replies for appending. If both are named pipes, it waits each time for the
 client's end. So the client opens its end of the replies first, which waits for nothing, and then its end of FILE, once
@@ -86,7 +86,7 @@ class Client:
 
     def take(self, end: int) -> None:
         """Takes the lines up to this number as the next ones to write."""
-        self.unsent = script_of(self.lines[self.asked:end])
+        self.unsent = script_of(self.lines[self.asked:end], "latin-1")
         self.begun += [time.monotonic()] * (end - self.asked)
         self.asked = max(self.asked, end)
 
@@ -143,19 +143,20 @@ def closed(end: int) -> int:
 # ---- Clients at once -----------------------------------------------------------------------------
 
 
-def serve(clients: Sequence[Client], is_over: Callable[[Client], bool]) -> None:
+def serve(clients: Sequence[Client], is_over: Callable[[Client], bool], seconds: float | None = None) -> None:
     """Lets clients read and write at the same time, each until this holds of it."""
     while left := [client for client in clients if not is_over(client)]:
-        serve_once(left)
+        serve_once(left, seconds)
 
 
-def serve_once(clients: Sequence[Client]) -> None:
-    """Lets each of the clients read and write that can; waits for the first one."""
+def serve_once(clients: Sequence[Client], seconds: float | None = None) -> None:
+    """Lets each of the clients read and write that can; waits for the first one, if not so many seconds a minute."""
+    seconds = SECONDS if seconds is None else seconds
     wanted = [client.writing for client in clients if client.unsent]
-    readable, writable, _ = select.select([client.reading for client in clients], wanted, [], SECONDS)
+    readable, writable, _ = select.select([client.reading for client in clients], wanted, [], seconds)
     if not readable and not writable:
         counts = (f"{client.name} has {len(client.replies)} of {client.goal} replies" for client in clients)
-        raise Broken(f"nothing came in {SECONDS:.0f} s: {', '.join(counts)}")
+        raise Broken(f"nothing came in {seconds:.0f} s: {', '.join(counts)}")
     for client in clients:
         if client.writing in writable:
             client.push()
@@ -221,8 +222,9 @@ class Live:
 
     def __init__(self, words: Sequence[str]) -> None:
         self.clients: list[Client] = []
-        pipe = subprocess.PIPE
-        self.child = subprocess.Popen(words, stdin=subprocess.DEVNULL, stdout=pipe, stderr=pipe)
+        pipe, none = subprocess.PIPE, subprocess.DEVNULL
+        # in a session of its own, so that Control-C at a terminal isn't for the program
+        self.child = subprocess.Popen(words, stdin=none, stdout=pipe, stderr=pipe, start_new_session=True)
 
     def __enter__(self) -> Self:
         return self

@@ -26,6 +26,7 @@ TOOLS = {
     "moment": "draw.moment",
     "calls": "calls.calls",
     "page": "page.page",
+    "live": "live.live",
     "prompt": "speak.prompt",
     "explain": "speak.explain",
     "draft": "speak.draft",

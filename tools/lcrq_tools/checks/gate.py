@@ -36,6 +36,7 @@ COMMANDS = (
     "python3 tools/check.py exercises",
     "python3 tools/check.py sentences",
     "python3 tools/check.py prompt",
+    "python3 tools/check.py live_page",
     "python3 tools/check.py conversation",
     "python3 tools/check.py ample",
     "python3 tools/check.py refused_memory back",

@@ -194,8 +194,8 @@ def help_fault(built: str) -> str:
 # ---- Tools ---------------------------------------------------------------------------------------
 
 # The tools whose examples are run, each with the status that comes of it: conform.py's log differs. The gate
-# runs the checks themselves; a measurement, an archive and a build take long.
-LEFT_OUT = ("bench", "check", "gate", "quick_build", "release")
+# runs the checks themselves; a measurement, an archive and a build take long, and a server doesn't end.
+LEFT_OUT = ("bench", "check", "gate", "live", "quick_build", "release")
 RUN_NOTHING = ("draft", "schema")
 SHOWN = {tool: 0 for tool in entry.TOOLS if tool not in LEFT_OUT} | {"conform": 1}
 

@@ -11,6 +11,7 @@ Only Python's standard library is used.
 
 import argparse
 import contextlib
+import functools
 import os
 import re
 import shutil
@@ -26,8 +27,8 @@ from lcrq_tools.faults import FAULTS, Fault, Parser, text_of
 from lcrq_tools.options import add_program, add_script, add_world, settled, start_words
 from lcrq_tools.program import Driven, bytes_of, lines_of as lines_of_text, run
 from lcrq_tools.records import Counts
-from lcrq_tools.speak import board, forms
-from lcrq_tools.speak.teller import EVENTS, Spoken, Teller
+from lcrq_tools.speak import board, completion, forms
+from lcrq_tools.speak.teller import Spoken, Teller
 
 MOST_STEPS = 1000  # of `until`
 PLAIN_WIDTH = 80  # letters of a line where the terminal doesn't say
@@ -95,45 +96,28 @@ class Session:
 # ---- Completion -----------------------------------------------------------------------------------
 
 
-def segment_names(session: Session) -> list[str]:
-    """The segments that are there."""
-    return [*board.segments_of(session.driven.ask_all, session.actors)]
-
-
 def marks_of(session: Session) -> list[str]:
     """The bookmarks' names."""
     replies = board.until_refused(session.driven.ask_all, (f"markat {number}" for number in range(1, 99)))
     return [reply.split(" ")[1] for reply in replies]
 
 
-def places_of(session: Session, words: Sequence[str]) -> list[str]:
-    """What may come next in a place of which these words are there."""
-    kinds = {place.split(" ")[0]: place.split(" ")[1:] for place in manual.PLACES}
-    if not words:
-        return [*kinds]
-    after = kinds.get(words[0], [])[len(words) - 1:]
-    if not after:
-        return []
-    return segment_names(session) if after[0] == "M.S" else [str(number) for number in range(8)]
+def known_of(session: Session) -> completion.Known:
+    """What the run has that lines name."""
+    segments = functools.partial(board.segments_of, session.driven.ask_all, session.actors)
+    return completion.Known(session.actors, lambda: [*segments()], lambda: marks_of(session))
 
 
 def completions(session: Session, before: str) -> list[str]:
-    """What may come next behind the words of a line that are whole."""
+    """What may come next behind the words of a line that are whole, the prompt's own ones too."""
     words = before.split()
-    if not words:
+    if not words or words == ["help"]:
         return [*forms.WORDS, *OWN]
-    word, *rest = words
-    if word in ("show", "writer"):
-        return places_of(session, rest)
-    if word in ("drop", "goto", "same") and len(rest) < 1 + (word == "same"):
-        return marks_of(session)
-    if word in (*EVENTS, "actor", "until") and not rest:
+    if words == ["until"]:
         return [str(actor) for actor in range(1, session.actors + 1)]
-    if word == "starve" and len(rest) == 1:
-        return ["yes", "no"]
-    if word == "help" and not rest:
-        return [*forms.WORDS, *OWN]
-    return sorted(path for path in os.listdir() if path.endswith(OPENED)) if word == "open" else []
+    if words[0] == "open":
+        return sorted(path for path in os.listdir() if path.endswith(OPENED))
+    return completion.completions(known_of(session), before)
 
 
 def completed(session: Session, line: str, text: str) -> list[str]:

@@ -1,0 +1,3 @@
+#!/usr/bin/env python3
+from lcrq_tools.entry import script
+script("live")
