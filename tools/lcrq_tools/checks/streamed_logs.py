@@ -3,7 +3,11 @@
 """
 
 import contextlib
+import os
+import pty
 import random
+import re
+import select
 import subprocess
 import sys
 import time
@@ -15,7 +19,7 @@ from lcrq_tools.checks.port_runs import DIFFERS, Bench, Report, agrees, steps_wi
 from lcrq_tools.program import TOP, script_of
 
 LATE, LATE_UNPROVED = 0.2, 5.0  # seconds from a record to the difference that it makes
-STARTED = 1.5  # seconds in which the tool has started, and compared what is there
+STARTED = 4.0  # seconds in which the tool has started, and compared what is there
 MOST_KIB = 100_000  # that the tool may hold
 CALLS, MANY = 60, 1600  # of each of four threads
 
@@ -68,6 +72,41 @@ def memory_fault(bench: Bench, calls: int) -> str:
     return "" if ended.peak_kib <= MOST_KIB else f"it holds {ended.peak_kib:,} KiB, {MOST_KIB:,} at most are wanted"
 
 
+def progress_fault(bench: Bench) -> str:
+    """What is wrong with what a terminal shows while a log is compared that doesn't end, or nothing."""
+    log = bench.log_of("lcrq", "--ring", 2, "--seed", 2, "--calls", 12, "--turns")
+    words = [sys.executable, str(TOP / "tools/conform.py"), "-", "--ring", "2", "--program", bench.program]
+    terminal, its = pty.openpty()
+    with subprocess.Popen(words, stdin=subprocess.PIPE, stdout=subprocess.PIPE, stderr=its) as child:
+        assert child.stdin and child.stdout  # pipes
+        os.close(its)
+        child.stdin.write(script_of(log[: len(log) // 2]))
+        child.stdin.flush()
+        is_told = bool(select.select([terminal], [], [], STARTED + (LATE_UNPROVED if is_slow(bench) else 1.0))[0])
+        said = os.read(terminal, 200).decode() if is_told else ""
+        child.kill()
+        with contextlib.suppress(BrokenPipeError):
+            child.stdin.close()
+    os.close(terminal)
+    return "" if re.search(r"[0-9,]+ records", said) else f"a terminal shows {said!a} after half of the log"
+
+
+def go_on_fault(bench: Bench) -> str:
+    """What is wrong with how long `--go-on` takes beside a run that agrees, or nothing."""
+    log = bench.log_of("lcrq", "--ring", 8, "--seed", 3, "--calls", CALLS if is_slow(bench) else MANY, "--turns")
+    at = next(at for at in range(len(log) // 2, len(log)) if " Q2 " in log[at])
+    changed = [*log]
+    changed[at] = re.sub(r"(?<= Q2 )\d+", lambda found: str(int(found[0]) + 1), log[at])
+    begin = time.monotonic()
+    agreed = bench.compare(log, "--ring", 8)
+    middle = time.monotonic()
+    differs = bench.compare(changed, "--ring", 8, "--go-on")
+    took = middle - begin, time.monotonic() - middle
+    if agreed[0] or not differs[0]:
+        return f"status {agreed[0]} and {differs[0]}: {differs[1][:200]}"
+    return "" if took[1] <= 2 * took[0] + 1 else f"it takes {took[1]:.1f} s, and {took[0]:.1f} s where all agrees"
+
+
 def folder_fault(bench: Bench, log: list[str]) -> str:
     """What is wrong with what is done to the folder of -o, or nothing."""
     folder = bench.folder / "older"
@@ -103,6 +142,8 @@ def streamed_runs(bench: Bench) -> Iterator[tuple[str, str]]:
     yield "a difference in a pipe that stays open, said at once", pipe_fault(bench)
     calls = CALLS if is_slow(bench) else MANY
     yield f"no more than {MOST_KIB:,} KiB for {calls} calls of each thread", memory_fault(bench, calls)
+    yield "progress at a terminal", progress_fault(bench)
+    yield "the time of --go-on beside that of a log that agrees", go_on_fault(bench)
     yield "the folder of -o, emptied or no folder", folder_fault(bench, log)
     yield "a pipe whose records are in no order", order_fault(bench, log)
     status, text = late_choice(bench)
