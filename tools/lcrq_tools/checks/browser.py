@@ -29,7 +29,7 @@ from pathlib import Path
 from typing import Any
 
 from lcrq_tools import dependence, model, program
-from lcrq_tools.checks import histories, run_pages, shown
+from lcrq_tools.checks import browser_live, histories, run_pages, shown
 from lcrq_tools.faults import Parser
 from lcrq_tools.options import add_program
 from lcrq_tools.page import page
@@ -44,7 +44,7 @@ try:
 except ImportError:
     HAS_SELENIUM = False
 
-LONG, VIEWERS = "long", "viewers"
+LONG, VIEWERS, LIVE = "long", "viewers", "live"
 LINES = 40  # of the history of viewers
 WIDTHS = (400, 1000, 1900)  # pixels: a phone, a window, a beamer
 HEIGHT = 1000
@@ -333,6 +333,8 @@ def checks(browser: Browser | None, folder: Path, given: argparse.Namespace) -> 
             yield f"{name}, under a policy", walk.policy_fault() if walk else skipped
     if not given.names or LONG in given.names:
         yield "a run of 400 lines", long_fault(browser, folder, given) if browser else skipped
+    if not given.names or LIVE in given.names:
+        yield from browser_live.checks(browser, folder, given) if browser else [("the live page", skipped)]
 
 
 def missing() -> str:
@@ -344,7 +346,7 @@ def missing() -> str:
 def main() -> int:
     """Prints each check; returns the exit status."""
     parser = Parser(__doc__, "session")
-    about = f"examples whose pages are opened, {VIEWERS}: a history, {LONG}: a run of 400 lines (all)"
+    about = f"examples whose pages are opened, {VIEWERS}: a history, {LONG}: a run of 400 lines, {LIVE}: the live page (all)"
     parser.add_argument("names", nargs="*", metavar="NAME", help=about)
     add_program(parser)
     given = parser.parse_args()

@@ -214,6 +214,10 @@ command -v man > /dev/null || man() { :; }
 command -v column > /dev/null || column() { cat; }
 command -v rlwrap > /dev/null || rlwrap() { "$@"; }
 command -v make > /dev/null || make() { :; }
+live.py() {  # serves for some seconds, and ends as by Control-C
+  case "$*" in *FILE* | *LINK*) return 0 ;; esac
+  timeout --preserve-status --signal=INT 6 "$(type -P live.py)" "$@" --no-browser
+}
 """
 EACH = """\
 TRIED={folder}
