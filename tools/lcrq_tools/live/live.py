@@ -31,7 +31,6 @@ from lcrq_tools.program import counted
 
 VIEWERS = 8  # if nothing is said
 PORTS = range(1 << 16)
-NO_FREE_PORT = 0  # any free one is taken
 
 
 def parser() -> Parser:

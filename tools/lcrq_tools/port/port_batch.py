@@ -26,7 +26,6 @@ UNSAID = b"; -"  # how a step ends that ends no call, or whose reply no record h
 NEVER = b"\n"  # which no reply ends with
 NAMED = ("E1", "E2", "Q1", "Q13")  # labels whose answer is a segment, as is that of the places below
 OF_SEGMENTS = ("qhead", "qtail", "next")
-WAYS = {"call": 0, "step": 1, "reply": 2}
 NUMBER = rb"(?:0|[1-9][0-9]{0,18})"
 USUAL = re.compile(
     rb"((?!E1 |E2 |E1[0234] |Q1 |Q1[34] )[EQ][0-9]+) ((?:won|lost|none|(?:open |closed |[01] )?%b))"
