@@ -1,6 +1,6 @@
 -- The marks of a list of names with entries: looking one up, adding one and removing one.
 use Rattle.rd_marks.specs.declared.commands.Command.TheVariants.{GotoMark}
-use Rattle.rd_marks.proofs.Prelude.{inr, is_ok, ◌⊎◌, ◌≢◌, suc, Result, Err, IsOk, IfErr, ne_eqb, ◌≡◌, ℕ, Bool, true, false, cond, map, refl, sym, ap, ◌∙◌, subst, List, [], ◌∷◌, ◌++◌, length, is_some, option_map, Option, Some, All, slice_get, arith, lookup, remove_entry, remove_key, map-id, Entry, Event, MarkName, mark_name_eq, eq-eqb, false≢true, get_or_from_slice_get, slice_get-map, slice_get_within, Refusal, World, MOST_MARKS, Begins, Mark, BookState, events_by_name, mark, goto_mark, GotoMakesSteps, AnswersSame, marks_of, events, Node, book_state, entries_at, stretches_in, LacksRoomForEvents, MayRefuseIfGoto, AreInPieces, Book, numbered, Ok}
+use Rattle.rd_marks.proofs.Prelude.{inr, is_ok, ◌⊎◌, ◌≢◌, suc, Result, Err, IsOk, IfErr, ne_eqb, ◌≡◌, ℕ, Bool, true, false, cond, map, refl, sym, ap, ◌∙◌, subst, List, [], ◌∷◌, ◌++◌, length, is_some, option_map, Option, Some, All, slice_get, arith, lookup, remove_entry, remove_key, map-id, Entry, Event, MarkName, mark_name_eq, eq-eqb, false≢true, get_or_from_slice_get, slice_get-map, slice_get_within, Refusal, World, MOST_MARKS, Begins, Mark, BookState, events_by_name, mark, goto_mark, GotoMakesSteps, AnswersSame, marks_of, events, Node, book_state, state, entries_at, stretches_in, LacksRoomForEvents, MayRefuseIfGoto, NeedsCopy, Book, numbered, Ok}
 use Rattle.std.proofs.lemmas.Map.Entries.{All-lookup}
 use Rattle.std.proofs.lemmas.Map.Views.{All-map-remove_entry}
 use Rattle.rd_cell.specs.declared.refusal.Refusal.TheVariants as refusal
@@ -93,7 +93,7 @@ mark_refused b name refusal h goes = absurd (false≢true (sym (ap is_ok h) ∙ 
 
 -- a refusal with NoMemory on the way to a mark is one that `MayRefuseIfGoto` allows
 pub goto_lacks : {R : ℕ} {X : Type 0} (r : Result X Refusal) (b : Book R) (name : MarkName) (node : Node) → events_by_name (book_state b).marks name ≡ Some (events (entries_at (stretches_in b.bookmarks) node))
-    → IfErr r (λ cause. (cause ≡ refusal.NoMemory) × (LacksRoomForEvents b.session (events (entries_at (stretches_in b.bookmarks) node)) ⊎ AreInPieces (stretches_in b.bookmarks) node)) → IfErr r (MayRefuseIfGoto b (GotoMark name))
+    → IfErr r (λ cause. (cause ≡ refusal.NoMemory) × (LacksRoomForEvents b.session (events (entries_at (stretches_in b.bookmarks) node)) ⊎ NeedsCopy (stretches_in b.bookmarks) node (state b.session).live)) → IfErr r (MayRefuseIfGoto b (GotoMark name))
 goto_lacks (Ok x) b name node its h = tt
 goto_lacks (Err cause) b name node its h = inr (h.0, record { node = node; its = its; lacks = h.1 })
 

@@ -21,7 +21,7 @@ pub use Rattle.rd_marks.specs.Events.{as_event, as_reply}
 pub use Rattle.rd_marks.specs.NameBytes.{MOST_MARKS, MOST_NAME_BYTES, is_mark_name, is_name_byte}
 pub use Rattle.rd_marks.specs.Names.{bytes_of, mark_name_eq}
 pub use Rattle.rd_marks.specs.Rules.{CanRun, HaveDifferentNames, KeepsRules, MarksCanRun}
-pub use Rattle.rd_marks.specs.Stretches.{AreFresh, AreInPieces, AreNeeded, AreNeededFrom, AreNested, AgreesFor, IsDeepest, IsEnd, IsCanonical, IsWithin, continued, entry_count, entries_at, greatest_len_in_stretch, list_from, list_before, needed_at, node_len_in_stretch, shared_at, stretch_list}
+pub use Rattle.rd_marks.specs.Stretches.{AreFresh, AreNeeded, AreNeededFrom, AreNested, AgreesFor, IsDeepest, IsEnd, IsCanonical, IsWithin, NeedsCopy, continued, entry_count, entries_at, greatest_len_in_stretch, list_from, list_before, needed_at, node_len_in_stretch, shared_at, stretch_list}
 pub use Rattle.rd_marks.specs.declared.bookmarks.Bookmarks.{Bookmarks}
 pub use Rattle.rd_marks.specs.declared.books.Book.{Book}
 pub use Rattle.rd_marks.specs.declared.commands.Command.{Command}

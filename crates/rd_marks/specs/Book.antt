@@ -12,7 +12,7 @@ use Rattle.rd_marks.specs.declared.names.MarkName.{MarkName}
 use Rattle.rd_marks.specs.declared.stretches.Node.{Node}
 use Rattle.rd_marks.specs.BookState.{BookState, events_by_name, goto_mark}
 use Rattle.rd_marks.specs.Bookmarks.{named_entries_in, marks_of, stretches_in}
-use Rattle.rd_marks.specs.Stretches.{entries_at, AreInPieces}
+use Rattle.rd_marks.specs.Stretches.{entries_at, NeedsCopy}
 use Rattle.rd_cell.specs.declared.refusal.Refusal.TheVariants as refusal
 
 -- the state of a book: its session's state, and its marks with their events
@@ -28,12 +28,12 @@ abbrev pub name_room : {R : ℕ} → Book R → ℕ
 name_room b = spare b.bookmarks.names
 
 -- the events of the mark of this name are those of a node (`its`), and going there may need memory
--- (`lacks`): the session lacks room for the steps, or the node's entries lie in more than one
--- stretch, so that a copy is needed
+-- (`lacks`): the session lacks room for the steps, or the entries of those that aren't live yet must
+-- be copied
 pub record LacksRoomToGo {R : ℕ} (b : Book R) (name : MarkName) : Type 0 where
   pub node : Node
   pub its : events_by_name (book_state b).marks name ≡ Some (events (entries_at (stretches_in b.bookmarks) node))
-  pub lacks : LacksRoomForEvents b.session (events (entries_at (stretches_in b.bookmarks) node)) ⊎ AreInPieces (stretches_in b.bookmarks) node
+  pub lacks : LacksRoomForEvents b.session (events (entries_at (stretches_in b.bookmarks) node)) ⊎ NeedsCopy (stretches_in b.bookmarks) node (state b.session).live
 
 -- if the command goes to a mark, the book may refuse it with this cause: with the refusal of
 -- `goto_mark`, or with NoMemory if it lacks room. Of other commands this states nothing

@@ -102,11 +102,26 @@ abbrev pub entry_count : List Stretch → ℕ
 entry_count [] = 0
 entry_count (s ∷ ss) = length s.entries.items + entry_count ss
 
--- the entries of a node lie in more than one stretch: a node `at` has the same entries, the last of
--- them is its stretch's own (`own`), and its stretch shares the first of them with the list before
--- it (`shares`)
-pub record AreInPieces (ss : List Stretch) (p : Node) : Type 0 where
+-- the entries of a node after the first n lie in more than one stretch: a node `at` has the same
+-- entries as this one, the last of them is its stretch's own (`own`), and its stretch shares more
+-- than n of them with the list before it (`shares`)
+pub record AreInPieces (ss : List Stretch) (p : Node) (n : ℕ) : Type 0 where
   pub at : Node
   pub same : entries_at ss at ≡ entries_at ss p
   pub own : IsCanonical ss at
-  pub shares : 0 < shared_at ss at.stretch
+  pub shares : n < shared_at ss at.stretch
+
+-- n is the length of the longest common prefix of two lists of events: both begin with the same n
+-- events (`alike`), and with no more than n (`most`)
+pub record IsCommonLen (n : ℕ) (es fs : List Event) : Type 0 where
+  pub first : n ≤ length es
+  pub second : n ≤ length fs
+  pub alike : take n es ≡ take n fs
+  pub most : (m : ℕ) → m ≤ length es → m ≤ length fs → take m es ≡ take m fs → m ≤ n
+
+-- to go from these live events to those of a node, entries must be copied: the entries of the node
+-- after the longest common prefix, of length `kept`, lie in more than one stretch
+pub record NeedsCopy (ss : List Stretch) (p : Node) (live : List Event) : Type 0 where
+  pub kept : ℕ
+  pub common : IsCommonLen kept live (events (entries_at ss p))
+  pub pieces : AreInPieces ss p kept

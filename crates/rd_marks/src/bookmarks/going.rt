@@ -5,7 +5,7 @@ ghost use Rattle.rd_depend.specs.Beginnings.{Begins};
 ghost use Rattle.rd_journal.specs.Journal.{events};
 ghost use Rattle.rd_journal.specs.Sessions.{state, track, journal, LacksRoomForEvents};
 ghost use Rattle.rd_marks.specs.BookmarksFields.{AreEntriesOfRun};
-ghost use Rattle.rd_marks.specs.Stretches.{entries_at, IsWithin, AreInPieces};
+ghost use Rattle.rd_marks.specs.Stretches.{entries_at, IsWithin, NeedsCopy};
 
 use super::super::stretches::Node;
 use super::Bookmarks;
@@ -25,8 +25,8 @@ impl Bookmarks {
     /// # Errors
     ///
     /// `NoMemory` if memory was refused for the steps that are made again, or for a copy of their
-    /// entries if the node's entries lie in more than one stretch. A refusal changes nothing. It
-    /// never happens if the live steps begin with the node's, or if the session moves along.
+    /// entries if these lie in more than one stretch. A refusal changes nothing. It never happens if
+    /// the live steps begin with the node's, or if the session moves along.
     #[tactic(auto, using(rd_step::proofs::PassedUp::error_passed_up))]
     pub(crate) fn go_to<const R: usize>(
         &mut self,
@@ -48,7 +48,7 @@ impl Bookmarks {
         ensures stands { Begins (events (here_entries self.new)) (track session.new) }
         ensures err { IfErr result (λ refusal. (refusal ≡ Refusal.NoMemory)
             × (LacksRoomForEvents session.old (events (entries_at (stretches_in self.old) node))
-            ⊎ AreInPieces (stretches_in self.old) node)) }
+            ⊎ NeedsCopy (stretches_in self.old) node (state session.old).live)) }
         ensures succeeds { Begins (events (entries_at (stretches_in self.old) node))
             (state session.old).live → IsOk result }
         ensures along { Begins (events (entries_at (stretches_in self.old) node))
@@ -73,8 +73,8 @@ impl Bookmarks {
     /// # Errors
     ///
     /// `NoMemory` if memory was refused for the steps that are made again, or for a copy of their
-    /// entries if the node's entries lie in more than one stretch. Nothing has changed then. This
-    /// never happens if the live steps begin with the node's.
+    /// entries if these lie in more than one stretch. Nothing has changed then. This never happens
+    /// if the live steps begin with the node's.
     fn switch_to<const R: usize>(
         &self,
         alloc: Global,
@@ -93,7 +93,7 @@ impl Bookmarks {
             }) }
         ensures err { IfErr result (λ refusal. (refusal ≡ Refusal.NoMemory)
             × (LacksRoomForEvents session.old (events (entries_at (stretches_in self.now) node))
-            ⊎ AreInPieces (stretches_in self.now) node)) }
+            ⊎ NeedsCopy (stretches_in self.now) node (state session.old).live)) }
         ensures succeeds { Begins (events (entries_at (stretches_in self.now) node))
             (state session.old).live → IsOk result }
         ensures unchanged { OnErr result (journal session.new ≡ journal session.old) }

@@ -75,8 +75,9 @@ impl<const R: usize> Book<R> {
     /// # Errors
     ///
     /// In this order: `NoMark` if no bookmark has this name; `NoMemory` if memory was refused for
-    /// the steps that are made again, or for a copy of their entries. `NoMemory` can't happen if
-    /// the live steps begin with the bookmark's. A refusal changes nothing.
+    /// the steps that are made again, or for a copy of their entries if these lie in more than one
+    /// stretch. `NoMemory` can't happen if the live steps begin with the bookmark's. A refusal
+    /// changes nothing.
     pub fn goto_mark(&mut self, name: MarkName) -> Result<(), Refusal>
         ensures ok { OnOk result (goto_mark (book_state self.old) name ≡ Ok (book_state self.new)) }
         ensures err { IfErr result (λ refusal. (goto_mark (book_state self.old) name ≡ Err refusal)

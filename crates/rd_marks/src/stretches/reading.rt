@@ -48,7 +48,7 @@ impl Stretches {
     /// # Errors
     ///
     /// `AllocError` if memory for a copy was refused. This never happens if there are no such
-    /// entries, or if all entries of the node lie in one stretch.
+    /// entries, or if they all lie in one stretch.
     pub(crate) fn entries_after(
         &self,
         alloc: Global,
@@ -59,7 +59,7 @@ impl Stretches {
         requires within { n ≤ of.number }
         ensures ok { IfOk result (λ entries. cow_slice_items entries
             ≡ drop n (entries_at self.now.list.items of)) }
-        ensures err { OnErr result (AreInPieces self.now.list.items of) }
+        ensures err { OnErr result (AreInPieces self.now.list.items of n) }
         ensures succeeds { of.number ≡ n → IsOk result }
     {
         let own = self.canonical_node(of);
