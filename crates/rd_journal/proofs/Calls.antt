@@ -1,6 +1,6 @@
 -- What the calls of a session answer, over its journal.
 use Rattle.rd_journal.proofs.Prelude.{◌≡◌, ℕ, ◌+◌, ◌-◌, ◌<◌, ◌≤◌, ◌⊎◌, refl, sym, ◌∙◌, ap, subst, List, [], ◌∷◌, ◌++◌, length, get_or, ok_or, Result, Ok, Err, IsOk, IfErr, inl, inr, arith, ne_eqb, length-append, opened_with, and_then, result_map, cond-false, map-append, length-map, take-map, slice_get_past, slice_get-get_or, slice_get-map, Refusal, Stepped, step, IsWellFormed, MOST_STEPS, Event, Entry, model, room, live_entries, ahead_entries, kept_entries, IsIndexOf, whole_journal, journal, state, MayLackMemory, Journal, events, IsRun, entry_of, IsSession, HasRoomToRedo, State, state_of, with_event, apply, back, forward, live_event, IsAppendedToLive, IsMovedBack, IsRunWithoutLast, AsksForMemory, Entries, slice_get_cases, Session}
-use Rattle.rd_journal.specs.Sessions.{KeepsItsSteps, MayRefuse, capacity, room as session_room, index}
+use Rattle.rd_journal.specs.Sessions.{KeepsItsSteps, MayRefuse, ahead, capacity, room as session_room, index}
 use Rattle.std.specs.declared.snapshot.Snapshot.{Snapshot}
 use Rattle.rd_step.specs.declared.worlds.World.{World as CodeWorld}
 use Rattle.rd_journal.proofs.Ahead.{is_session}
@@ -118,7 +118,7 @@ IsOk-from_ok : (r : Result Stepped Refusal) (s : Stepped) → r ≡ Ok s → IsO
 IsOk-from_ok r s h = grind arith
 
 -- if the session is out of memory for an event, its state may lack memory for it
-may_lack : {R : ℕ} (s : Session R) (e : Event) → AsksForMemory (journal s) (capacity s) (session_room s) (index s) e → MayLackMemory (state s) e
+may_lack : {R : ℕ} (s : Session R) (e : Event) → AsksForMemory (journal s) (ahead s) (capacity s) (session_room s) (index s) e → MayLackMemory (state s) e
 may_lack s e out = record {
   not_full = omega (arith, out.not_full, live_len (journal s));
   asked = elim out.asked [

@@ -18,10 +18,10 @@ pub use Rattle.rd_journal.specs.Journal.{IsRun, Journal, LeadsTo, entry_of, unle
 pub use Rattle.rd_journal.specs.Laws.{IsClosureLast, IsMovedLast, IsStepAfter}
 pub use Rattle.rd_journal.specs.Moves.{IsRunWithoutLast, IsAppendedToLive, IsMovedBack, IsMovedForward, IsRolledBack, IsRunWithout, IsSwitched, IsUndoneAlone, IsRunWithoutClosure, undo_at_answer, roll_answer}
 pub use Rattle.rd_journal.specs.Numbers.{IsOrder, at_numbers}
-pub use Rattle.rd_journal.specs.Room.{HasRoomToRedo, ActorsHaveRoom, AsksForMemory, LacksIndexRoom, LacksRoomToSwitch, room_returned_by, room_after_undoing}
+pub use Rattle.rd_journal.specs.Room.{HasRoomToRedo, ActorsHaveRoom, AsksForMemory, LacksRoomToSwitch, room_returned_by, room_after_undoing}
 pub use Rattle.rd_journal.specs.SessionFields.{IsSession, whole_journal}
 unfoldable pub use Rattle.rd_journal.specs.SessionFields.{opened_with}
-pub use Rattle.rd_journal.specs.Sessions.{AnswersAs, GoesAlongTrack, LacksRoomForEvents, MayRefuse, capacity, index, journal, state, track}
+pub use Rattle.rd_journal.specs.Sessions.{AnswersAs, ahead, GoesAlongTrack, LacksRoomForEvents, MayRefuse, capacity, index, journal, state, track}
 pub use Rattle.rd_journal.specs.State.{MayLackMemory, State, apply, back, forward, live_event, call_result_of, roll, run_of, state_of, step_after, switch, undo_at, undone_where_true, with_event}
 pub use Rattle.rd_journal.specs.declared.entries.Entries.{Entries}
 pub use Rattle.rd_journal.specs.declared.sessions.Session.{Session}

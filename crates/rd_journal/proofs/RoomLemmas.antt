@@ -1,6 +1,6 @@
 -- The room that redoing needs, of the makers and in the index of dependants. The index counts room
 -- for each actor, place and segment, so the order of entries doesn't matter.
-use Rattle.rd_journal.proofs.Prelude.{◌≡◌, true, arith, ℕ, ◌+◌, ◌≤◌, List, ◌∷◌, Ok, [], ◌++◌, take, ap, World, step, Event, Entry, makes_segment, room_used, room_returned, room_used_returned, HasRoomToRedo, take-append-drop, DependIndex, is_listed_for, count_by, GivesRoom, HasRoomFor, HasRoomInstead, LacksIndexRoom}
+use Rattle.rd_journal.proofs.Prelude.{◌≡◌, true, arith, ℕ, ◌+◌, ◌≤◌, List, ◌∷◌, Ok, [], ◌++◌, World, step, Event, Entry, makes_segment, room_used, room_returned, room_used_returned, HasRoomToRedo, DependIndex, is_listed_for, GivesRoom, HasRoomFor}
 use Rattle.rd_depend.proofs.IndexPositions.{count_by-append, count_by-cons}
 
 -- undoing a step gives back the room that redoing it needs
@@ -33,13 +33,6 @@ fits_none index = record { lists = λ t. omega arith }
 -- room
 pub fits_back : (old new : DependIndex) (gone rest : List Entry) → GivesRoom old new gone → HasRoomFor old rest → HasRoomFor new (gone ++ rest)
 fits_back old new gone rest gives has = record { lists = λ t. omega (arith, count_by-append (is_listed_for t) gone rest, has.lists t, gives t) }
-
--- if room is missing in place of some entries, it is missing in place of the first of them
-pub lacks_fewer : (index : DependIndex) (m : ℕ) (front gone given : List Entry) → (HasRoomInstead index (front ++ gone) given → ⊥)
-    → LacksIndexRoom index (front ++ take m gone) given
-lacks_fewer index m front gone given lacks has = lacks (record {
-  lists = λ t. omega (arith, count_by-append (is_listed_for t), ap (count_by (is_listed_for t)) (take-append-drop m gone), has.lists t);
-})
 
 -- if there is room for entries and others, there is for these
 pub fits_first : (index : DependIndex) (xs ys : List Entry) → HasRoomFor index (xs ++ ys) → HasRoomFor index xs

@@ -28,20 +28,21 @@ pub record ActorsHaveRoom (w : World) (given : List Entry) (room : ℕ → ℕ) 
 abbrev pub LacksIndexRoom : DependIndex → List Entry → List Entry → Type 0
 LacksIndexRoom index gone given = HasRoomInstead index gone given → ⊥
 
--- the step succeeds, and the index has no room for its entry, even once the undone ones are removed
-pub record FindsNoIndexRoom (stepped : Result Stepped Refusal) (undone : List Entry) (index : DependIndex) : Type 0 where
+-- the step succeeds, and the index has no room for its entry, even once those ahead are removed
+pub record FindsNoIndexRoom (stepped : Result Stepped Refusal) (ahead : List Entry) (index : DependIndex) : Type 0 where
   pub after : Stepped
   pub goes : stepped ≡ Ok after
-  pub lacks : LacksIndexRoom index undone (after.entry ∷ [])
+  pub lacks : LacksIndexRoom index ahead (after.entry ∷ [])
 
 -- the event may be refused memory: fewer than `MOST_STEPS` steps are live, and one of three things
 -- holds. No step is undone and the live entries fill the room for entries (`capacity`); or the step
 -- makes a segment that nothing else refuses, and its maker has no room (`room`); or the step
--- succeeds, and the index has no room for its entry, even once the undone ones are removed
-pub record AsksForMemory (j : Journal) (capacity : ℕ) (room : ℕ → ℕ) (index : DependIndex) (e : Event) : Type 0 where
+-- succeeds, and the index has no room for its entry, even once the entries of all steps ahead
+-- (`ahead`) are removed
+pub record AsksForMemory (j : Journal) (ahead : List Entry) (capacity : ℕ) (room : ℕ → ℕ) (index : DependIndex) (e : Event) : Type 0 where
   pub not_full : length j.live < MOST_STEPS
   pub asked : ((j.undone ≡ []) × (capacity ≡ length j.live)) ⊎ FindsNoRoom (step j.world e) (makes_segment j.world e) (room e.actor)
-      ⊎ FindsNoIndexRoom (step j.world e) j.undone index
+      ⊎ FindsNoIndexRoom (step j.world e) ahead index
 
 -- a refusal (`cause`) other than `TooLong` and `NoMemory` comes only where there is room for one
 -- more entry: `capacity` is the number of entries that fit, `live` the number of live ones
@@ -58,7 +59,7 @@ LacksRoomForMakings given room = (m : ℕ) × (room m < room_returned_by given m
 
 -- room is missing for a switch: for the given entries after the first n live ones; or, once the
 -- other live steps are undone, for some maker's makings among the given entries; or, once the other
--- live entries and the undone ones are removed from the index, for the given ones in it
-abbrev pub LacksRoomToSwitch : ℕ → Journal → List Entry → ℕ → (ℕ → ℕ) → DependIndex → Type 0
-LacksRoomToSwitch n j given capacity room index =
-    (capacity < n + length given) ⊎ LacksRoomForMakings given (room_after_undoing (drop n j.live) room) ⊎ LacksIndexRoom index (drop n j.live ++ j.undone) given
+-- live entries and those of all steps ahead are removed from the index, for the given ones in it
+abbrev pub LacksRoomToSwitch : ℕ → Journal → List Entry → List Entry → ℕ → (ℕ → ℕ) → DependIndex → Type 0
+LacksRoomToSwitch n j ahead given capacity room index =
+    (capacity < n + length given) ⊎ LacksRoomForMakings given (room_after_undoing (drop n j.live) room) ⊎ LacksIndexRoom index (drop n j.live ++ ahead) given

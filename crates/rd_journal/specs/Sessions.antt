@@ -1,5 +1,5 @@
--- A session in the words that public clauses cite: its journal, its state, its track, its room and
--- its index.
+-- A session in the words that public clauses cite: its journal, its state, the entries ahead, its
+-- track, its room and its index.
 use Rattle.std.specs.Prelude.{◌≡◌, ◌≤◌, ◌⊎◌, ℕ, List, ◌++◌, length, take, Result, Ok, Err}
 use Rattle.rd_step.specs.Prelude.{Refusal, model, room as world_room}
 use Rattle.rd_depend.specs.declared.index.DependIndex.{DependIndex}
@@ -22,11 +22,15 @@ journal s = record { start = opened_with s.opened; world = model s.world; live =
 abbrev pub state : {R : ℕ} → Session R → State
 state s = state_of (journal s)
 
+-- the entries of the steps ahead, which can be made again as they are: first of the undone steps,
+-- then of those that the session went back over
+abbrev pub ahead : {R : ℕ} → Session R → List Entry
+ahead s = ahead_entries s.entries
+
 -- the events of the session's track, along which it goes back and forth: first of the live steps,
--- then of the steps ahead. The steps ahead are the undone ones and then those that it went back
--- over, and can be made again as they are
+-- then of the steps ahead
 abbrev pub track : {R : ℕ} → Session R → List Event
-track s = (state s).live ++ events (ahead_entries s.entries)
+track s = (state s).live ++ events (ahead s)
 
 -- the number of segments that an actor can still make before memory is asked for
 abbrev pub room : {R : ℕ} → Session R → ℕ → ℕ
@@ -61,7 +65,7 @@ pub record KeepsItsSteps {R : ℕ} (old new : Session R) : Type 0 where
 -- the session may refuse the event with this cause: as its state refuses it, or with `NoMemory`
 -- where room is missing
 abbrev pub MayRefuse : {R : ℕ} → Session R → Event → Refusal → Type 0
-MayRefuse s e cause = (apply (state s) e ≡ Err cause) ⊎ ((cause ≡ refusal.NoMemory) × AsksForMemory (journal s) (capacity s) (room s) (index s) e)
+MayRefuse s e cause = (apply (state s) e ≡ Err cause) ⊎ ((cause ≡ refusal.NoMemory) × AsksForMemory (journal s) (ahead s) (capacity s) (room s) (index s) e)
 
 -- the session lacks room for going to these events: for some `kept` and `given`, the first `kept`
 -- live steps stay, the entries of the other events are `given`, all these are the entries of a run
@@ -72,4 +76,4 @@ pub record LacksRoomForEvents {R : ℕ} (s : Session R) (es : List Event) : Type
   pub within : kept ≤ length (journal s).live
   pub ran : IsRunFrom (journal s).start (take kept (journal s).live ++ given)
   pub all : take kept (state s).live ++ events given ≡ es
-  pub lacks : LacksRoomToSwitch kept (journal s) given (capacity s) (room s) (index s)
+  pub lacks : LacksRoomToSwitch kept (journal s) (ahead s) given (capacity s) (room s) (index s)

@@ -77,7 +77,7 @@ impl<const R: usize> Drop for Session<R> {
 }
 
 impl<const R: usize> Session<R> {
-    ghost use Rattle.rd_journal.specs.Sessions.{journal, state, track, room, capacity, index, MayRefuse, AnswersAs, GoesAlongTrack, KeepsItsSteps};
+    ghost use Rattle.rd_journal.specs.Sessions.{journal, state, ahead, track, room, capacity, index, MayRefuse, AnswersAs, GoesAlongTrack, KeepsItsSteps};
 
     /// Opens a session in a world, which is its start. No step is live or undone then, and makers
     /// keep the room that they have in the world. Opening takes no memory.
@@ -117,7 +117,8 @@ impl<const R: usize> Session<R> {
     ///   undone and the live entries fill the room;
     /// - the refusal of the step itself, which is `NoMemory` for a making whose maker has no room
     ///   and is refused memory;
-    /// - `NoMemory` if the index of dependants has no room for the step and is refused it.
+    /// - `NoMemory` if the index of dependants, once the steps ahead are removed from it, has no
+    ///   room for the step and is refused it.
     ///
     /// The steps and the world are then as before.
     pub fn apply(&mut self, event: Event) -> Result<(u64, Entry), Refusal>
@@ -290,8 +291,8 @@ impl<const R: usize> Session<R> {
     /// # Errors
     ///
     /// `NoMemory` if memory is refused, which is asked for only if room is missing once the other
-    /// steps are undone, and never if no entry is given. The steps and the world are then as
-    /// before.
+    /// steps are undone and all steps ahead are removed from the index, and never if no entry is
+    /// given. The steps and the world are then as before.
     pub fn switch(&mut self, n: u64, entries: &[Entry]) -> Result<(), Refusal>
         requires within { n ≤ length (journal self.old).live }
         requires few { n + length entries.now ≤ MOST_STEPS }
@@ -301,8 +302,8 @@ impl<const R: usize> Session<R> {
         ensures entries { OnOk result (IsSwitched n entries.now (journal self.old)
             (journal self.new)) }
         ensures err { IfErr result (λ refusal. (refusal ≡ Refusal.NoMemory)
-            × LacksRoomToSwitch n (journal self.old) entries.now (capacity self.old) (room self.old)
-            (index self.old)) }
+            × LacksRoomToSwitch n (journal self.old) (ahead self.old) entries.now
+            (capacity self.old) (room self.old) (index self.old)) }
         ensures unchanged { OnErr result (KeepsItsSteps self.old self.new) }
         ensures succeeds { entries.now ≡ [] → IsOk result }
         ensures capacity { n + length entries.now ≤ capacity self.old

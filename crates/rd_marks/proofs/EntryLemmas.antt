@@ -1,5 +1,5 @@
 -- The entries of a session's live steps, and what switching to entries of a run leaves.
-use Rattle.rd_marks.proofs.Prelude.{◌≡◌, ℕ, zero, suc, drop, ◌≤◌, refl, List, [], ◌∷◌, ◌++◌, length, take, ◌⊎◌, inl, Result, Ok, Err, OnOk, IfErr, arith, capacity, room, index, LacksRoomForEvents, Session, state, journal, Refusal, World, run, Event, take-append-drop, drop-map, length-map, Entry, State, state_of, switch, Journal, AreEntriesOfRun, CanRun, events, run_entries, IsRunFrom, LacksRoomToSwitch, first_step, runs_to}
+use Rattle.rd_marks.proofs.Prelude.{◌≡◌, ℕ, zero, suc, drop, ◌≤◌, refl, List, [], ◌∷◌, ◌++◌, length, take, ◌⊎◌, inl, Result, Ok, Err, OnOk, IfErr, arith, ahead, capacity, room, index, LacksRoomForEvents, Session, state, journal, Refusal, World, run, Event, take-append-drop, drop-map, length-map, Entry, State, state_of, switch, Journal, AreEntriesOfRun, CanRun, events, run_entries, IsRunFrom, LacksRoomToSwitch, first_step, runs_to}
 use Rattle.rd_cell.specs.declared.refusal.Refusal.TheVariants as refusal
 
 -- A start and its events determine the entries of a run
@@ -35,7 +35,7 @@ may_switch j n zs ys given ran kept h = grind (arith, kept.ran, take-append-drop
 -- live
 pub lacks_room_to_go : {R : ℕ} {X : Type 0} (r : Result X Refusal) (s : Session R) (n : ℕ) (given : List Entry) (es : List Event) (P : Type 0) → take n (state s).live ++ events given ≡ es
     → n ≤ length (journal s).live → IsRunFrom (journal s).start (take n (journal s).live ++ given)
-    → IfErr r (λ e. (e ≡ refusal.NoMemory) × LacksRoomToSwitch n (journal s) given (capacity s) (room s) (index s)) → IfErr r (λ e. (e ≡ refusal.NoMemory) × (LacksRoomForEvents s es ⊎ P))
+    → IfErr r (λ e. (e ≡ refusal.NoMemory) × LacksRoomToSwitch n (journal s) (ahead s) given (capacity s) (room s) (index s)) → IfErr r (λ e. (e ≡ refusal.NoMemory) × (LacksRoomForEvents s es ⊎ P))
 lacks_room_to_go (Ok x) s n given es P all within ran h = tt
 lacks_room_to_go (Err e) s n given es P all within ran h =
     (h.0, inl (record { kept = n; given = given; within = within; ran = ran; all = all; lacks = h.1 }))

@@ -5,11 +5,11 @@ use Rattle.rd_cell.specs.declared.refusal.Refusal.TheVariants as refusal
 use Rattle.rd_step.specs.Prelude.{Content, Operation, Actor, Act, need, Access, perform, Contents, Ran, run}
 use Rattle.rd_depend.proofs.IndexPositions.{count_by-cons}
 use Rattle.rd_depend.specs.Index.{spare}
-use Rattle.rd_journal.proofs.Prelude.{◌≡◌, ◌≢◌, ◌≤◌, ◌+◌, ℕ, Bool, inl, inr, sym, ap, subst, refl, arith, List, [], ◌∷◌, length, Result, Ok, Err, IsOk, Refusal, World, Stepped, step, first_step, Event, Entry, apply, journal, state, IsRunFrom, AsksForMemory, MayRefuse, is_listed_for, count_by}
+use Rattle.rd_journal.proofs.Prelude.{◌≡◌, ◌≢◌, ◌≤◌, ◌+◌, ℕ, Bool, inl, inr, sym, ◌∙◌, ap, subst, refl, arith, List, [], ◌∷◌, ◌++◌, drop, take-append-drop, length, Result, Ok, Err, IsOk, Refusal, World, Stepped, step, first_step, Event, Entry, apply, journal, state, IsRunFrom, AsksForMemory, MayRefuse, is_listed_for, count_by}
 use Rattle.rd_journal.proofs.Ahead.{is_session}
 use Rattle.rd_journal.proofs.Calls.{applies}
 use Rattle.rd_journal.proofs.RoomLemmas.{redo_room}
-use Rattle.rd_journal.specs.Sessions.{room, capacity, index}
+use Rattle.rd_journal.specs.Sessions.{ahead, room, capacity, index}
 use Rattle.rd_journal.specs.declared.sessions.Session.{Session}
 use Rattle.rd_journal.specs.State.{State}
 
@@ -58,21 +58,23 @@ same_entry : (r : Result Stepped Refusal) (after : Stepped) (w : World) (x : Ent
 same_entry r after w x goes same = grind arith
 
 -- an entry has the room that one like it leaves
-fits_again : (test : Entry → Bool) (n : ℕ) (y x : Entry) (undone rest : List Entry) → y ≡ x → undone ≡ x ∷ rest
-    → count_by test (y ∷ []) ≤ n + count_by test undone
-fits_again test n y x undone rest same front = rw (same, front) (omega (arith, count_by-cons test x rest, count_by-cons test x []))
+fits_again : (test : Entry → Bool) (n : ℕ) (y x : Entry) (ahead rest : List Entry) → y ≡ x → ahead ≡ x ∷ rest
+    → count_by test (y ∷ []) ≤ n + count_by test ahead
+fits_again test n y x ahead rest same front = rw (same, front) (omega (arith, count_by-cons test x rest, count_by-cons test x []))
 
 -- its event needs no memory: the undone step left its room
 pub undone_asks_for_none : {R : ℕ} (s : Session R) (x : Entry) (rest : List Entry) → (journal s).undone ≡ x ∷ rest
-    → AsksForMemory (journal s) (capacity s) (room s) (index s) x.event → ⊥
+    → AsksForMemory (journal s) (ahead s) (capacity s) (room s) (index s) x.event → ⊥
 undone_asks_for_none s x rest front asks =
     let session = is_session s in
     let first = first_step (journal s).world x rest (subst (IsRunFrom (journal s).world) front session.runs.undone_run_on) in
+    let others = rest ++ drop s.undone (ahead s) in
+    let in_front : ahead s ≡ x ∷ others = sym (take-append-drop s.undone (ahead s)) ∙ ap (λ (xs : List Entry). xs ++ drop s.undone (ahead s)) front in
     elim asks.asked [
       | inl full ↦ absurd (cc (front, full.0))
       | inr h ↦ elim h [
         | inl made ↦ omega (arith, made.2, redo_room (journal s).world first.after (journal s).undone rest x (room s) front first.goes session.has_room made.1)
-        | inr lone ↦ lone.lacks (record { lists = λ t. fits_again (is_listed_for t) (spare (index s) t) lone.after.entry x (journal s).undone rest (same_entry _ lone.after first.after x lone.goes first.goes) front })
+        | inr lone ↦ lone.lacks (record { lists = λ t. fits_again (is_listed_for t) (spare (index s) t) lone.after.entry x (ahead s) others (same_entry _ lone.after first.after x lone.goes first.goes) in_front })
       ]
     ]
 

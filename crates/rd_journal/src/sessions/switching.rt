@@ -17,7 +17,7 @@ use rd_cell::limits::{ACTOR_NUMBERS, MOST_STEPS};
 use rd_step::{Entry, World};
 
 impl<const R: usize> Session<R> {
-    ghost use Rattle.rd_journal.specs.Sessions.{journal, state, room, capacity, index, KeepsItsSteps};
+    ghost use Rattle.rd_journal.specs.Sessions.{journal, state, ahead, room, capacity, index, KeepsItsSteps};
 
     /// Makes room for the given entries after the first `kept` live ones, and for the makings among
     /// them once the other live steps are undone. At least `kept` steps must be live, and at most
@@ -34,12 +34,13 @@ impl<const R: usize> Session<R> {
         ensures makings { OnOk result (ActorsHaveRoom (journal self.new).world given.now
             (room_after_undoing (drop kept (journal self.new).live) (room self.new))) }
         ensures err { IfErr result (λ refusal. (refusal ≡ Refusal.NoMemory)
-            × LacksRoomToSwitch kept (journal self.old) given.now (capacity self.old)
-            (room self.old) (index self.old)) }
+            × LacksRoomToSwitch kept (journal self.old) (ahead self.old) given.now
+            (capacity self.old) (room self.old) (index self.old)) }
         ensures succeeds { given.now ≡ [] → IsOk result }
         ensures capacity { kept + length given.now ≤ capacity self.old
             → capacity self.new ≡ capacity self.old }
         ensures unchanged { KeepsItsSteps self.old self.new }
+        ensures ahead { ahead self.new ≡ ahead self.old }
         ensures index { index self.new ≡ index self.old }
     {
         self.entries.make_room_for(kept as usize + given.len())?;
@@ -72,7 +73,7 @@ impl<const R: usize> Session<R> {
             ≡ switch (state self.old) n (events given.now)) }
         ensures err { IfErr result (λ refusal. (refusal ≡ Refusal.NoMemory)
             × LacksIndexRoom (index self.old)
-            (drop n (journal self.old).live ++ (journal self.old).undone) given.now) }
+            (drop n (journal self.old).live ++ ahead self.old) given.now) }
         ensures unchanged { OnErr result (KeepsItsSteps self.old self.new) }
         ensures capacity { capacity self.new ≡ capacity self.old }
     {

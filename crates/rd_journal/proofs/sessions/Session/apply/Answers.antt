@@ -1,7 +1,7 @@
-use Rattle.rd_journal.proofs.Prelude.{common_steps, ℕ, Err, ◌≡◌, ◌∙◌, ◌<◌, List, [], ◌∷◌, ◌++◌, length, take, drop, inl, inr, refl, sym, ap, subst, arith, opened_with, append-nil, take_all, take-append-le, drop-append_seam, Entry, HasRoomInstead, kept_entries, model, room, MOST_STEPS, error_passed_up, fact_passed_up, err_then, ok_then, IsAppendedToLive, whole_journal, live_entries, ahead_entries, journal}
+use Rattle.rd_journal.proofs.Prelude.{common_steps, ℕ, Err, ◌≡◌, ◌∙◌, ◌<◌, List, ◌++◌, length, take, drop, inl, inr, refl, sym, ap, subst, arith, opened_with, append-nil, take_all, take-append-le, drop-append_seam, Entry, HasRoomInstead, kept_entries, model, room, MOST_STEPS, error_passed_up, fact_passed_up, err_then, ok_then, IsAppendedToLive, whole_journal, live_entries, ahead_entries, journal}
 use Rattle.rd_journal.proofs.Ahead.{with_undone, is_session, none_taken}
 use Rattle.rd_journal.proofs.Calls.{apply_refused, apply_goes, longer_session, still, unchanged, may_refuse-state}
-use Rattle.rd_journal.proofs.RoomLemmas.{lacks_fewer, stepped_back}
+use Rattle.rd_journal.proofs.RoomLemmas.{stepped_back}
 use Rattle.rd_journal.proofs.EntryLemmas.{full_entries}
 use Rattle.rd_journal.proofs.Runs.{now_formed, just_stepped}
 use Rattle.rd_journal.proofs.sessions.Session.apply.Goals as goal
@@ -82,8 +82,7 @@ returns-then-is_err-clause-memory g c =
         asked = inr (inr (record {
           after = record { world = model c.step.new.self; entry = c.in_ok-entry.entry };
           goes = c.in_ok-entry.ensures.ok;
-          lacks = lacks_fewer self.index self.undone [] (ahead_entries self.entries) (c.in_ok-entry.entry ∷ [])
-              (subst (λ (es : List Entry). HasRoomInstead self.index (ahead_entries self.entries) es → ⊥) c.from_ref.ensures.value lacks);
+          lacks = subst (λ (es : List Entry). HasRoomInstead self.index (ahead_entries self.entries) es → ⊥) c.from_ref.ensures.value lacks;
         }));
       },
     )

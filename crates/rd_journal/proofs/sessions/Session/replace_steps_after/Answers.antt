@@ -1,6 +1,5 @@
 use Rattle.rd_journal.proofs.Prelude.{◌≡◌, ◌∙◌, ◌≤◌, ℕ, List, ◌++◌, length, take, drop, refl, ap, subst, arith, opened_with, append-nil, length-take-le, take-append-le, drop_at, drop-append-le, error_passed_up, HasRoomInstead, model, room, Entry, IsIndexOf, whole_journal, live_entries, ahead_entries, journal}
 use Rattle.rd_journal.proofs.Ahead.{with_undone, is_session}
-use Rattle.rd_journal.proofs.RoomLemmas.{lacks_fewer}
 use Rattle.rd_journal.proofs.Runs.{live_lead}
 use Rattle.rd_journal.proofs.Switching.{may_exchange, exchanged}
 use Rattle.rd_journal.proofs.sessions.Session.replace_steps_after.Goals as goal
@@ -18,7 +17,7 @@ returns-in_err-replace_in_index-clause-err g c =
     let ahead = ahead_entries self.entries in
     let gone : drop n (live ++ ahead) ≡ drop n live ++ ahead = drop-append-le n live ahead (omega (arith, c.requires.within)) in
     let lacks = subst (λ (es : List Entry). HasRoomInstead self.index es c.args.given.now → ⊥) gone c.in_err-replace_in_index.ensures.lacks in
-    error_passed_up _ refusal.NoMemory c.from_residual.result c.from_residual.ensures.1 (refl, lacks_fewer self.index self.undone (drop n live) ahead c.args.given.now lacks)
+    error_passed_up _ refusal.NoMemory c.from_residual.result c.from_residual.ensures.1 (refl, lacks)
 
 pub undo_after-requires : goal.undo_after-requires
 undo_after-requires g c =
