@@ -1,6 +1,6 @@
 -- The steps of one list keep the order of another list exactly if they may be taken out of that
 -- list one after another.
-use Rattle.rd_depend.proofs.Prelude.{AllByRecursion, eqb-false, map-append, Entry, Key, Reached, is_under, last_blocking, taken_in, with_step, nothing_reached, AreAlike, Numbered, by_actor, steps_by_actor, with_rest, KeepsOrder, ◌≡◌, ◌≢◌, ℕ, ◌+◌, ◌<◌, ◌≤◌, Bool, true, false, ◌==◌, if◌then◌else◌, List, [], ◌∷◌, ◌++◌, length, map, refl, sym, ap, subst, ◌∙◌, arith, eqb-true, length-append, enumerate_from, filter-append}
+use Rattle.rd_depend.proofs.Prelude.{AllByRecursion, eqb-false, map-append, Entry, Key, Reached, is_under, last_blocking, raised, with_step, nothing_reached, AreAlike, Numbered, by_actor, steps_by_actor, with_rest, KeepsOrder, ◌≡◌, ◌≢◌, ℕ, ◌+◌, ◌<◌, ◌≤◌, Bool, true, false, ◌==◌, if◌then◌else◌, List, [], ◌∷◌, ◌++◌, length, map, refl, sym, ap, subst, ◌∙◌, arith, eqb-true, length-append, enumerate_from, filter-append}
 use Rattle.rd_depend.proofs.Elements.{all-append, all-parts, all-weaker, map-nil}
 use Rattle.rd_depend.proofs.FirstOfActor.{HasNoneBy}
 use Rattle.rd_depend.proofs.TouchedKeys.{wrote_under, wrote_touched, passed_at, in_order_at, in_order_from}
@@ -15,10 +15,10 @@ IsAfterAll s x i = (k : Key) → is_under k x.place ≡ true → last_blocking (
 
 -- t is how far the steps reached after x, which has the number i in the second run
 abbrev Passes : (Key → Reached) → Entry → ℕ → (Key → Reached) → Type 0
-Passes s x i t = (k : Key) → t k ≡ (if is_under k x.place then taken_in (s k) (wrote_under k x.place x.wrote) i else s k)
+Passes s x i t = (k : Key) → t k ≡ (if is_under k x.place then raised (s k) (wrote_under k x.place x.wrote) i else s k)
 
 passes-alike : (s t : Key → Reached) (x y : Entry) (i : ℕ) → AreAlike x y → Passes s x i t → Passes s y i t
-passes-alike s t x y i h m k = m k ∙ (λ j. if touched-alike x y h k j then taken_in (s k) (wrote-alike x y h k j) i else s k)
+passes-alike s t x y i h m k = m k ∙ (λ j. if touched-alike x y h k j then raised (s k) (wrote-alike x y h k j) i else s k)
 
 after-alike : (s : Key → Reached) (x y : Entry) (i : ℕ) → AreAlike x y → IsAfterAll s x i → IsAfterAll s y i
 after-alike s x y i h after k touched = grind arith

@@ -21,7 +21,7 @@ pub use Rattle.rd_depend.specs.ComparedSteps.{IsMatched, IsUnmatched, steps_by_a
 pub use Rattle.rd_depend.specs.Equivalence.{DecidesEquivalence}
 pub use Rattle.rd_depend.specs.Index.{By, EndsWith, GivesRoom, HasRoomFor, HasRoomInstead, IsIndexOf, HasSameRoom, ListKey, Under, UsesRoom, capacity, kept, positions, positions_from, spare, touched_or_written, is_listed_for}
 unfoldable pub use Rattle.rd_depend.specs.KeepingOrder.{with_step}
-pub use Rattle.rd_depend.specs.KeepingOrder.{AreAlike, IsAfter, IsInOrder, KeepsOrder, Numbered, is_whole_segment, last_blocking, nothing_reached, taken_in, taken_in_under, with_rest}
+pub use Rattle.rd_depend.specs.KeepingOrder.{AreAlike, IsAfter, IsInOrder, KeepsOrder, Numbered, is_whole_segment, last_blocking, nothing_reached, raised, with_step_under, with_rest}
 unfoldable pub use Rattle.rd_depend.specs.Keys.{slot_in}
 unfoldable pub use Rattle.rd_depend.specs.Lists.{IsMoved}
 pub use Rattle.rd_depend.specs.KeyLaws.{key_eq-refl, key_eq-sym, key_eq-true}

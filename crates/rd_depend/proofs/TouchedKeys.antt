@@ -1,6 +1,6 @@
 -- The keys under which a step touched, what it wrote under them, and its order and how far it
 -- reached under each.
-use Rattle.rd_depend.proofs.Prelude.{◌≡◌, ℕ, ◌<◌, Bool, true, false, if◌then◌else◌, Option, Some, arith, SegName, Place, Wrote, written, name_eq, Entry, Key, At, In, Reached, is_under, value_key, is_value_written, last_blocking, taken_in, IsAfter, IsInOrder, with_step}
+use Rattle.rd_depend.proofs.Prelude.{◌≡◌, ℕ, ◌<◌, Bool, true, false, if◌then◌else◌, Option, Some, arith, SegName, Place, Wrote, written, name_eq, Entry, Key, At, In, Reached, is_under, value_key, is_value_written, last_blocking, raised, IsAfter, IsInOrder, with_step}
 use Rattle.rd_cell.specs.declared.places.Place.TheVariants as place
 
 -- whether there is a place, and it is the whole of this segment
@@ -26,7 +26,7 @@ wrote_value o w k h = grind arith
 -- how far the steps reached, and their order, key by key
 
 pub passed_at : (s : Key → Reached) (x : Entry) (i : ℕ) (k : Key)
-    → with_step s x i k ≡ (if is_under k x.place then taken_in (s k) (wrote_under k x.place x.wrote) i else s k)
+    → with_step s x i k ≡ (if is_under k x.place then raised (s k) (wrote_under k x.place x.wrote) i else s k)
 unfolding with_step
 passed_at s x i k = grind arith
 

@@ -19,7 +19,7 @@ use Rattle.rd_depend.specs.KeepingOrder.{Numbered, nothing_reached, IsNext, with
 abbrev pub reached_or_nothing : Key → Option Reached → Reached
 reached_or_nothing k o = unwrap_or o (nothing_reached k)
 
--- how far the steps that were taken in reached under each key
+-- how far the steps that were added reached under each key
 abbrev pub reached_of : ReachedByKey → Key → Reached
 reached_of by_key k = reached_or_nothing k (get key_eq by_key.reached k)
 
@@ -44,9 +44,9 @@ left_of steps = left_in steps.steps.items
 abbrev pub with_first : (ℕ → List Numbered) → ℕ → Numbered → ℕ → List Numbered
 with_first left n p = with_rest left n (p ∷ left n)
 
--- the next step of the actor of x in the second run, `step`, is like x and in order there. Taking x
--- in leads from the state `s` to `t`. Removing `step` leads from the steps left of each actor,
--- `old`, to `new`, where `rest` is left of this one
+-- the next step of the actor of x in the second run, `step`, is like x and in order there. Adding x
+-- leads from the state `s` to `t`. Removing `step` leads from the steps left of each actor, `old`,
+-- to `new`, where `rest` is left of this one
 pub record IsMatched (x : Entry) (s t : Key → Reached) (old new : ℕ → List Numbered) : Type 0 where
   pub step : Numbered
   pub rest : List Numbered

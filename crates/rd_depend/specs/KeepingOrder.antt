@@ -1,6 +1,6 @@
 -- Whether two runs have their dependent steps in the same order. The steps of the first run are
--- taken in one after another. A state `s` says for each key how far the steps taken in before
--- reached in the second run.
+-- added one after another. A state `s` says for each key how far the steps added before reached in
+-- the second run.
 use Rattle.std.specs.Prelude.{◌≡◌, ◌<◌, ℕ, max, Bool, true, false, not, ◌==◌, if◌then◌else◌, List, [], ◌∷◌, Option, Some, None}
 use Rattle.rd_cell.specs.declared.places.Place.{Place}
 use Rattle.rd_cell.specs.declared.places.Place.TheVariants as place
@@ -22,37 +22,37 @@ last_blocking r wrote = if wrote then r.touched else r.wrote
 
 -- how far the steps under a key reached after one more, which has the number i in the second run
 -- and, if `wrote`, wrote the key
-abbrev pub taken_in : Reached → Bool → ℕ → Reached
-taken_in r wrote i = record { touched = max r.touched i; wrote = if wrote then max r.wrote i else r.wrote }
+abbrev pub raised : Reached → Bool → ℕ → Reached
+raised r wrote i = record { touched = max r.touched i; wrote = if wrote then max r.wrote i else r.wrote }
 
 -- how far the steps reached under each key before the first of them: nowhere
 abbrev pub nothing_reached : Key → Reached
 nothing_reached k = record { touched = 0; wrote = 0 }
 
 -- a step that has the number i in the second run and, if `wrote`, wrote this key comes there after
--- all steps taken in before under the key on which it depends; this always holds without a key
+-- all steps added before under the key on which it depends; this always holds without a key
 abbrev pub IsAfter : (Key → Reached) → Option Key → Bool → ℕ → Type 0
 IsAfter s None wrote i = Unit {0}
 IsAfter s (Some k) wrote i = last_blocking (s k) wrote < i
 
 -- the state after one more step under this key, which has the number i in the second run and, if
 -- `wrote`, wrote the key; as before without a key
-abbrev pub taken_in_under : Option Key → Bool → ℕ → (Key → Reached) → Key → Reached
-taken_in_under key wrote i s k = if some_key_eq k key then taken_in (s k) wrote i else s k
+abbrev pub with_step_under : Option Key → Bool → ℕ → (Key → Reached) → Key → Reached
+with_step_under key wrote i s k = if some_key_eq k key then raised (s k) wrote i else s k
 
--- a step with number i in the second run comes there after all steps taken in before that share one
--- of its three keys and on which it depends. A making counts as a write of its segment, and any
--- other step at a place of the segment as a read of it
+-- a step with number i in the second run comes there after all steps added before that share one of
+-- its three keys and on which it depends. A making counts as a write of its segment, and any other
+-- step at a place of the segment as a read of it
 pub record IsInOrder (s : Key → Reached) (x : Entry) (i : ℕ) : Type 0 where
   pub place : IsAfter s (place_key x.place) (not (is_nothing x.wrote)) i
   pub value : IsAfter s (value_key x.place) (is_value_written x.wrote) i
   pub segment : IsAfter s (segment_key x.place) (is_whole_segment x.place) i
 
--- the state after this step, which has the number i in the second run, is taken in
+-- the state after this step, which has the number i in the second run, is added
 unfoldable pub with_step : (Key → Reached) → Entry → ℕ → Key → Reached
 with_step s x i =
-    taken_in_under (segment_key x.place) (is_whole_segment x.place) i
-    (taken_in_under (value_key x.place) (is_value_written x.wrote) i (taken_in_under (place_key x.place) (not (is_nothing x.wrote)) i s))
+    with_step_under (segment_key x.place) (is_whole_segment x.place) i
+    (with_step_under (value_key x.place) (is_value_written x.wrote) i (with_step_under (place_key x.place) (not (is_nothing x.wrote)) i s))
 
 -- two steps have the same event and the same place, and wrote the same part of it
 pub record AreAlike (x y : Entry) : Type 0 where
@@ -75,9 +75,9 @@ pub record IsNext (s : Key → Reached) (x : Entry) (left : ℕ → List Numbere
   pub alike : AreAlike x p.1
   pub order : IsInOrder s x p.0
 
--- these steps of the first run are just those left of the second. Taken in one after another from
--- the state `s` on, each is like the next one of its actor there and in order, and at the end none
--- is left
+-- these steps of the first run are just those left of the second. Added one after another from the
+-- state `s` on, each is like the next one of its actor there and in order, and at the end none is
+-- left
 abbrev pub KeepsOrder : (Key → Reached) → List Entry → (ℕ → List Numbered) → Type 0
 KeepsOrder s [] left = (n : ℕ) → left n ≡ []
 KeepsOrder s (x ∷ xs) left =

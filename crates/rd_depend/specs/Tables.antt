@@ -1,7 +1,7 @@
 -- Lists of positions, each known by its number, from 0; what the table of keys keeps in them; and
 -- how its calls change them. For each key the table has two lists: one of all positions, and one of
--- the positions of steps that wrote there. A bit `w` says which list is meant: the second if it is
--- true. A bit `wrote` says whether a step wrote there.
+-- the positions of steps that wrote there. A bit `only_writes` says which list is meant: the second
+-- if it is true. A bit `wrote` says whether the step at hand wrote there.
 use Rattle.std.specs.Prelude.{◌≡◌, ℕ, ◌+◌, ◌-◌, ◌<◌, ◌≤◌, Bool, true, false, ◌&&◌, cond, if◌then◌else◌, List, [], ◌∷◌, ◌++◌, length, take, Option, Some, None, Vec, slice_get, vec_capacity, nat_lt}
 use Rattle.std.specs.Option.{option_map_or}
 use Rattle.std.specs.List.{before_first}
@@ -63,20 +63,20 @@ lists_of t true = t.writes.items
 -- the positions kept under a key; if the bit is true, only those of steps that wrote. There are
 -- none if the key isn't in the table
 abbrev pub kept_in : Table → Bool → Key → List ℕ
-kept_in t w k = some_list_at (lists_of t w) (slot_in t.keys.keys k)
+kept_in t only_writes k = some_list_at (lists_of t only_writes) (slot_in t.keys.keys k)
 
 -- the number of positions that this one of a key's two lists can have before it has to grow; 0 if
 -- the key isn't in the table
 abbrev pub capacity_in : Table → Bool → Key → ℕ
-capacity_in t w k = some_capacity_at (lists_of t w) (slot_in t.keys.keys k)
+capacity_in t only_writes k = some_capacity_at (lists_of t only_writes) (slot_in t.keys.keys k)
 
 -- the number of positions for which this one of a key's two lists has room left; 0 if the key isn't
 -- in the table
 abbrev pub spare_in : Table → Bool → Key → ℕ
-spare_in t w k = capacity_in t w k - length (kept_in t w k)
+spare_in t only_writes k = capacity_in t only_writes k - length (kept_in t only_writes k)
 
 -- whether one of a key's two lists keeps a step: the list of all positions always does, the list of
--- writes (first bit) only if the step wrote (second bit)
+-- writes (if the first bit, `only_writes`, is true) only if the step wrote (the second bit)
 abbrev pub is_kept_in : Bool → Bool → Bool
 is_kept_in false wrote = true
 is_kept_in true wrote = wrote
@@ -85,7 +85,7 @@ is_kept_in true wrote = wrote
 -- position
 pub record IsReady (t : Table) (k : Key) (wrote : Bool) (i : ℕ) : Type 0 where
   pub at : slot_in t.keys.keys k ≡ Some i
-  pub room : (w : Bool) → is_kept_in w wrote ≡ true → 0 < spare_in t w k
+  pub room : (only_writes : Bool) → is_kept_in only_writes wrote ≡ true → 0 < spare_in t only_writes k
 
 -- the key has this index, and its lists have room for the step; or there is neither a key nor an
 -- index
@@ -95,35 +95,35 @@ IsReadyIfSome t (Some k) wrote o = (i : ℕ) × (o ≡ Some i) × IsReady t k wr
 
 -- each of the key's lists that keep such a step has a position; this always holds without a key
 abbrev pub HasLast : Table → Option Key → Bool → Type 0
-HasLast t o wrote = (w : Bool) (k : Key) → o ≡ Some k → is_kept_in w wrote ≡ true → 1 ≤ length (kept_in t w k)
+HasLast t o wrote = (only_writes : Bool) (k : Key) → o ≡ Some k → is_kept_in only_writes wrote ≡ true → 1 ≤ length (kept_in t only_writes k)
 
 -- the lists are as before, no room was lost, and the keys that were there have their old indices
 pub record KeepsLists (old new : Table) : Type 0 where
-  pub lists : (w : Bool) (k : Key) → kept_in new w k ≡ kept_in old w k
-  pub room : (w : Bool) (k : Key) → spare_in old w k ≤ spare_in new w k
+  pub lists : (only_writes : Bool) (k : Key) → kept_in new only_writes k ≡ kept_in old only_writes k
+  pub room : (only_writes : Bool) (k : Key) → spare_in old only_writes k ≤ spare_in new only_writes k
   pub slots : (k : Key) (i : ℕ) → slot_in old.keys.keys k ≡ Some i → slot_in new.keys.keys k ≡ Some i
 
 -- the position was put at the end of those of the key's lists that are to keep the step, which lost
 -- room for at most one. The other lists, or all without a key, are as before and lost no room. The
 -- keys have their old indices
 pub record Puts (k : Option Key) (wrote : Bool) (position : ℕ) (old new : Table) : Type 0 where
-  pub lists : (w : Bool) (q : Key) → kept_in new w q ≡ (if is_kept_in w wrote && some_key_eq q k then kept_in old w q ++ position ∷ [] else kept_in old w q)
-  pub room : (w : Bool) (q : Key) → spare_in old w q ≤ spare_in new w q + cond (is_kept_in w wrote && some_key_eq q k) 1 0
+  pub lists : (only_writes : Bool) (q : Key) → kept_in new only_writes q ≡ (if is_kept_in only_writes wrote && some_key_eq q k then kept_in old only_writes q ++ position ∷ [] else kept_in old only_writes q)
+  pub room : (only_writes : Bool) (q : Key) → spare_in old only_writes q ≤ spare_in new only_writes q + cond (is_kept_in only_writes wrote && some_key_eq q k) 1 0
   pub slots : (q : Key) → slot_in new.keys.keys q ≡ slot_in old.keys.keys q
 
 -- those of the key's lists that keep the step lost their last position and have room for one more;
 -- the other lists, or all without a key, are as before
 pub record RemovesLast (k : Option Key) (wrote : Bool) (old new : Table) : Type 0 where
-  pub lists : (w : Bool) (q : Key) → kept_in new w q ≡ (if is_kept_in w wrote && some_key_eq q k then take (length (kept_in old w q) - 1) (kept_in old w q) else kept_in old w q)
-  pub room : (w : Bool) (q : Key) → spare_in new w q ≡ spare_in old w q + cond (is_kept_in w wrote && some_key_eq q k) 1 0
+  pub lists : (only_writes : Bool) (q : Key) → kept_in new only_writes q ≡ (if is_kept_in only_writes wrote && some_key_eq q k then take (length (kept_in old only_writes q) - 1) (kept_in old only_writes q) else kept_in old only_writes q)
+  pub room : (only_writes : Bool) (q : Key) → spare_in new only_writes q ≡ spare_in old only_writes q + cond (is_kept_in only_writes wrote && some_key_eq q k) 1 0
 
 -- in each list that ascends, k became n, if it was there, and the positions above k up to n became
 -- one less; the capacities are as before
 pub record Moves (k n : ℕ) (old new : Table) : Type 0 where
-  pub lists : (w : Bool) (q : Key) → IsAscending (kept_in old w q) → IsMoved k n (kept_in old w q) (kept_in new w q)
-  pub capacity : (w : Bool) (q : Key) → capacity_in new w q ≡ capacity_in old w q
+  pub lists : (only_writes : Bool) (q : Key) → IsAscending (kept_in old only_writes q) → IsMoved k n (kept_in old only_writes q) (kept_in new only_writes q)
+  pub capacity : (only_writes : Bool) (q : Key) → capacity_in new only_writes q ≡ capacity_in old only_writes q
 
 -- each list that ascends lost its positions above n; the capacities are as before
 pub record Cuts (n : ℕ) (old new : Table) : Type 0 where
-  pub lists : (w : Bool) (q : Key) → IsAscending (kept_in old w q) → kept_in new w q ≡ before_first (nat_lt n) (kept_in old w q)
-  pub capacity : (w : Bool) (q : Key) → capacity_in new w q ≡ capacity_in old w q
+  pub lists : (only_writes : Bool) (q : Key) → IsAscending (kept_in old only_writes q) → kept_in new only_writes q ≡ before_first (nat_lt n) (kept_in old only_writes q)
+  pub capacity : (only_writes : Bool) (q : Key) → capacity_in new only_writes q ≡ capacity_in old only_writes q

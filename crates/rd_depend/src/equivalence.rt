@@ -60,8 +60,8 @@ fn rests_are_equivalent(alloc: Global, a: &[Entry], b: &[Entry]) -> Result<bool,
 /// Compares the next step of the first run with the second run. Removes the next step of the same
 /// actor from those left of the second run. Returns whether there is one, it is like this step, and
 /// it comes there after all earlier steps on which it depends. If it is like this step, this step
-/// is taken in under its keys with its number there. Fails only if memory is refused; the step may
-/// then be taken in under some of its keys only.
+/// is added under its keys with its number there. Fails only if memory is refused; the step may
+/// then be added under some of its keys only.
 fn match_next(
     left: &mut StepsByActor,
     reached: &mut ReachedByKey,
@@ -79,7 +79,7 @@ fn match_next(
     if !are_alike(entry, other.entry) {
         return Ok(false);
     }
-    reached.take_in(entry, other.at)
+    reached.add_step(entry, other.at)
 }
 
 /// Whether the two steps have the same event and the same place, and wrote the same part of it.

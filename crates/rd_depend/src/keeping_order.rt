@@ -1,8 +1,8 @@
 //! Compares the order of dependent steps in two runs.
 //!
 //! Two runs are causally equivalent exactly if each actor makes the same steps in the same order in
-//! both, and any two steps that depend on each other are in the same order. So the code takes in
-//! the steps of the first run one after another, and keeps how far they reached in the second run.
+//! both, and any two steps that depend on each other are in the same order. So the code goes over
+//! the steps of the first run in order, and keeps how far they reached in the second run.
 //! For each key this is the greatest number there of a step that touched it, and of one that wrote
 //! it. A step that writes has to come after both there, and a step that only reads after those that
 //! wrote. A making counts as a write of its segment, and any other step at a place of the segment
@@ -10,7 +10,7 @@
 
 ghost use Rattle.std.specs.Prelude.{◌≡◌, ◌↔◌, ◌<◌, IsTrue, IfOk, OnOk};
 ghost use Rattle.rd_depend.specs.declared.index.keys.Key.{Key as KeyOf};
-ghost use Rattle.rd_depend.specs.KeepingOrder.{IsAfter, IsInOrder, last_blocking, is_whole_segment, nothing_reached, taken_in, with_step, taken_in_under};
+ghost use Rattle.rd_depend.specs.KeepingOrder.{IsAfter, IsInOrder, last_blocking, is_whole_segment, nothing_reached, raised, with_step, with_step_under};
 ghost use Rattle.rd_depend.specs.ComparedSteps.{reached_of};
 
 use super::index::keys::{Key, is_value_written};
@@ -30,12 +30,12 @@ pub(crate) struct Reached {
 }
 
 impl Reached {
-    /// Takes in a step that touched the key and, if `wrote`, wrote it. The step has the number `at`
-    /// in the second run. Returns whether it comes there after all steps taken in before under the
-    /// key on which it depends.
-    fn take_in(&mut self, wrote: bool, at: usize) -> bool
+    /// Raises the numbers to `at`, the number in the second run of one more step that touched the
+    /// key and, if `wrote`, wrote it. Returns whether this step comes there after all steps added
+    /// before under the key on which it depends.
+    fn raise(&mut self, wrote: bool, at: usize) -> bool
         ensures order { IsTrue result ↔ (last_blocking self.old wrote < at) }
-        ensures reached { self.new ≡ taken_in self.old wrote at }
+        ensures reached { self.new ≡ raised self.old wrote at }
     {
         let last = if wrote { self.touched } else { self.wrote };
         self.touched = self.touched.max(at);
@@ -46,10 +46,10 @@ impl Reached {
     }
 }
 
-/// How far the steps that were taken in reached in the second run, under each key.
+/// How far the steps that were added reached in the second run, under each key.
 #[derive(Drop)]
 pub(crate) struct ReachedByKey {
-    /// By key; a key under which no step was taken in is missing.
+    /// By key; a key under which no step was added is missing.
     reached: IndexMap<Key, Reached>,
 }
 
@@ -63,15 +63,13 @@ impl ReachedByKey {
         }
     }
 
-    /// Takes in a step, which has the number `at` in the second run, from 1. Returns whether it
-    /// comes there after all steps taken in before with which it shares a key and on which it
-    /// depends.
+    /// Adds a step, which has the number `at` in the second run, from 1. Returns whether it comes
+    /// there after all steps added before with which it shares a key and on which it depends.
     ///
     /// # Errors
     ///
-    /// `AllocError` if memory is refused. The step may then be taken in under some of its keys
-    /// only.
-    pub(crate) fn take_in(&mut self, entry: &Entry, at: usize) -> Result<bool, AllocError>
+    /// `AllocError` if memory is refused. The step may then be added under some of its keys only.
+    pub(crate) fn add_step(&mut self, entry: &Entry, at: usize) -> Result<bool, AllocError>
         ensures order { IfOk result (λ ok. IsTrue ok
             ↔ IsInOrder (reached_of self.old) entry.now at) }
         ensures reached { OnOk result (reached_of self.new
@@ -79,9 +77,9 @@ impl ReachedByKey {
     {
         let wrote = !entry.wrote.is_nothing();
         let value_written = is_value_written(entry.wrote);
-        let place = self.take_in_under(entry.place.map(Key::of_place), wrote, at)?;
-        let value = self.take_in_under(entry.place.and_then(Key::of_value), value_written, at)?;
-        let segment = self.take_in_under(
+        let place = self.add_step_under(entry.place.map(Key::of_place), wrote, at)?;
+        let value = self.add_step_under(entry.place.and_then(Key::of_value), value_written, at)?;
+        let segment = self.add_step_under(
             entry.place.and_then(Key::of_segment),
             is_whole_segment(entry.place),
             at,
@@ -89,11 +87,11 @@ impl ReachedByKey {
         Ok(place & value & segment)
     }
 
-    /// Takes in a step under this key, which it touched and, if `wrote`, wrote. The step has the
-    /// number `at` in the second run. Returns whether it comes there after all steps taken in
-    /// before under the key on which it depends; without a key it does nothing and returns true.
-    /// Fails only if memory is refused; nothing is said of what is reached then.
-    fn take_in_under(
+    /// Adds a step under this key, which it touched and, if `wrote`, wrote. The step has the number
+    /// `at` in the second run. Returns whether it comes there after all steps added before under
+    /// the key on which it depends; without a key it does nothing and returns true. Fails only if
+    /// memory is refused; nothing is said of what is reached then.
+    fn add_step_under(
         &mut self,
         key: Option<Key>,
         wrote: bool,
@@ -101,19 +99,19 @@ impl ReachedByKey {
     ) -> Result<bool, AllocError>
         ensures order { IfOk result (λ ok. IsTrue ok ↔ IsAfter (reached_of self.old) key wrote at) }
         ensures reached { OnOk result (reached_of self.new
-            ≡ taken_in_under key wrote at (reached_of self.old)) }
+            ≡ with_step_under key wrote at (reached_of self.old)) }
     {
         let Some(key) = key else {
             return Ok(true);
         };
         if let Some(reached) = self.reached.get_mut(&key) {
-            return Ok(reached.take_in(wrote, at));
+            return Ok(reached.raise(wrote, at));
         }
         let mut reached = Reached {
             touched: 0,
             wrote: 0,
         };
-        let order = reached.take_in(wrote, at);
+        let order = reached.raise(wrote, at);
         match self.reached.insert(key, reached) {
             Err(_) => Err(AllocError),
             Ok(_) => Ok(order),

@@ -23,7 +23,7 @@ use super::entry_list::{EntryList, entry_at};
 use gathering::move_closure_last;
 use rd_depend::DependIndex;
 use rd_step::Entry;
-use slots::{make_room_in, move_to, put_at};
+use slots::{make_room, move_to, put_at};
 use std::alloc::{AllocError, Global};
 
 /// The entries of the live steps, in their order, and of the steps ahead of them, the next one in
@@ -230,9 +230,9 @@ impl Entries {
         ensures same { needed ≤ entries_capacity self.old
             → entries_capacity self.new ≡ entries_capacity self.old }
     {
-        make_room_in(&mut self.slots, needed)?;
-        make_room_in(&mut self.order, needed)?;
-        make_room_in(&mut self.gathered, needed)
+        make_room(&mut self.slots, needed)?;
+        make_room(&mut self.order, needed)?;
+        make_room(&mut self.gathered, needed)
     }
 
     /// Keeps the first `n` live entries, puts the given ones after them, for which there must be

@@ -1,5 +1,6 @@
 -- Reading the entries of a node, and comparing the stretches with other entries.
-use Rattle.rd_marks.proofs.Prelude.{◌≡◌, ◌⊎◌, ℕ, zero, suc, ◌+◌, ◌-◌, ◌<◌, ◌≤◌, length-drop, refl, sym, ap, ◌∙◌, List, [], ◌∷◌, ◌++◌, length, take, drop, get_or, reverse, slice_get, option_map, Some, arith, drop-cons, take-add, cases_lt, append_assoc, drop-map, drop-take, length-map, reverse-append, take-take, slice_get-map, slice_get_read, Event, Entry, Node, Stretch, entry_count, stretch_list, list_before, shared_at, entries_at, IsWithin, IsCanonical, AgreesFor, AreNested, AreFresh, events, numbered, slice_get_within, get_or_from_slice_get, take-suc}
+use Rattle.rd_marks.proofs.Prelude.{◌≡◌, ◌⊎◌, ℕ, zero, suc, ◌+◌, ◌-◌, ◌<◌, ◌≤◌, length-drop, refl, sym, ap, ◌∙◌, List, [], ◌∷◌, ◌++◌, length, take, drop, get_or, reverse, slice_get, option_map, Some, arith, drop-cons, take-add, cases_lt, append_assoc, drop-map, drop-take, length-map, reverse-append, take-take, slice_get-map, slice_get_read, Event, Entry, Node, Stretch, entry_count, stretch_list, list_before, shared_at, entries_at, IsWithin, IsCanonical, AgreesFor, AreNested, AreFresh, events, numbered}
+use Rattle.rd_depend.proofs.Elements.{take-element}
 use Rattle.rd_journal.proofs.ListLemmas.{nth}
 use Rattle.rd_marks.proofs.StretchLists.{own_at, stretch_there, total, shared_within, begins_shared, behind_shared, list_past}
 use Rattle.rd_marks.proofs.Fresh.{Follows, follows_compared, follows_skipped, along_itself, along_within, between}
@@ -17,10 +18,6 @@ slice_get_drop : {X : Type 0} (xs : List X) (m n : ℕ) → slice_get (drop m xs
 slice_get_drop xs zero n = ap (slice_get xs) (let e : n ≡ 0 + n = omega arith in e)
 slice_get_drop [] (suc m) n = refl
 slice_get_drop (x ∷ xs) (suc m) n = slice_get_drop xs m n ∙ ap (slice_get (x ∷ xs)) (let e : suc (m + n) ≡ suc m + n = omega arith in e)
-
--- one more element of a beginning is the next one of the list
-take_one_more : {X : Type 0} (xs : List X) (n : ℕ) (x : X) → slice_get xs n ≡ Some x → take (suc n) xs ≡ take n xs ++ x ∷ []
-take_one_more {X} xs n x h = take-suc xs n x (slice_get_within xs n x h) ∙ ap (λ (y : X). take n xs ++ y ∷ []) (get_or_from_slice_get xs n x x h)
 
 -- Reading from the last entry to the first
 
@@ -68,7 +65,7 @@ module _ (ss : List Stretch) (rule : AreNested ss) where
   without_last p x some its =
       let parts : p.number ≡ suc (p.number - 1) = omega (arith, some) in
       ap (λ (n : ℕ). take n (stretch_list ss p.stretch)) parts
-      ∙ take_one_more (stretch_list ss p.stretch) (p.number - 1) x (sym (slice_get_take (stretch_list ss p.stretch) p.number (p.number - 1) (omega (arith, some))) ∙ its)
+      ∙ take-element (stretch_list ss p.stretch) (p.number - 1) x (sym (slice_get_take (stretch_list ss p.stretch) p.number (p.number - 1) (omega (arith, some))) ∙ its)
 
   -- if the stretch shares at most n entries, a node's entries after the first n are all its own
   pub own_entries_after : (p : Node) (n : ℕ) → IsWithin ss p → shared_at ss p.stretch ≤ n → n ≤ p.number

@@ -150,8 +150,8 @@ impl Stretches {
         at
     }
 
-    /// Returns the number of entries with which both nodes begin. The stretches must have the
-    /// entries of both.
+    /// Returns the length of the longest common prefix of the events of two nodes. The entries of
+    /// this prefix are equal too. The stretches must have the entries of both nodes.
     pub(crate) fn common_len(&self, one: Node, other: Node) -> usize
         requires one { IsWithin self.now.list.items one }
         requires other { IsWithin self.now.list.items other }
@@ -170,8 +170,9 @@ impl Stretches {
         }
     }
 
-    /// Returns the number of entries with which both nodes begin. The stretches must have the
-    /// entries of both. The node `other` must be in the same stretch as `one` or a later one.
+    /// Returns the length of the longest common prefix of the events of two nodes. The entries of
+    /// this prefix are equal too. The stretches must have the entries of both nodes, and `other`
+    /// must be in the same stretch as `one` or a later one.
     fn common_len_in_order(&self, one: Node, other: Node) -> usize
         requires one { IsWithin self.now.list.items one }
         requires other { IsWithin self.now.list.items other }

@@ -9,7 +9,9 @@ ghost use Rattle.rd_depend.specs.Moved.{moved_to};
 
 use super::DependIndex;
 use super::keys::{Key, is_value_written};
-use super::lists::{grow_to, move_in_all, put_in, remove_above_in_all, remove_last_in, reserve_in};
+use super::lists::{
+    grow_to, move_in_all, push_at, remove_above_in_all, remove_last_at, reserve_at,
+};
 use rd_cell::limits::MOST_STEPS;
 use rd_step::Entry;
 use std::alloc::AllocError;
@@ -165,7 +167,7 @@ impl DependIndex {
         ensures room { GivesRoom self.old self.new (entry.now ∷ []) }
     {
         self.len -= 1;
-        remove_last_in(&mut self.by_actor, usize::from(entry.event.actor));
+        remove_last_at(&mut self.by_actor, usize::from(entry.event.actor));
         let homes = EntryKeys::of(entry);
         self.by_key.remove_last(homes.place.key, homes.place.wrote);
         self.by_key.remove_last(homes.value.key, homes.value.wrote);
@@ -233,7 +235,7 @@ impl DependIndex {
     {
         let actor = usize::from(entry.event.actor);
         grow_to(&mut self.by_actor, self.alloc, actor + 1)?;
-        reserve_in(&mut self.by_actor, actor)?;
+        reserve_at(&mut self.by_actor, actor)?;
         let place = self
             .by_key
             .reserve(self.alloc, homes.place.key, homes.place.wrote)?;
@@ -261,7 +263,7 @@ impl DependIndex {
         self.len += 1;
         let position = self.len as u32;
         let actor = usize::from(entry.event.actor);
-        put_in(&mut self.by_actor, actor, position);
+        push_at(&mut self.by_actor, actor, position);
         self.by_key.put(slots.place, position, homes.place.wrote);
         self.by_key.put(slots.value, position, homes.value.wrote);
         self.by_key

@@ -50,7 +50,7 @@ pub(crate) fn grow_to(
 /// # Errors
 ///
 /// `AllocError` if memory is refused. No list has changed then, and no room is lost.
-pub(crate) fn reserve_in(lists: &mut Vec<Vec<u32>>, index: usize) -> Result<(), AllocError>
+pub(crate) fn reserve_at(lists: &mut Vec<Vec<u32>>, index: usize) -> Result<(), AllocError>
     requires { index < length lists.old.items }
     ensures lists { (i : ℕ) → list_at lists.new.items i ≡ list_at lists.old.items i }
     ensures room { (i : ℕ) → spare_at lists.old.items i ≤ spare_at lists.new.items i }
@@ -77,7 +77,7 @@ pub(crate) fn reserve_if(
     ensures succeeds { (wanted ≡ true → 0 < spare_at lists.old.items index) → IsOk result }
 {
     if wanted {
-        reserve_in(lists, index)
+        reserve_at(lists, index)
     } else {
         Ok(())
     }
@@ -107,8 +107,8 @@ fn reserve_several(list: &mut Vec<u32>) -> Result<(), AllocError>
     list.reserve(POSITIONS)
 }
 
-/// Puts a position at the end of the list of this number, which must have room for it.
-pub(crate) fn put_in(lists: &mut Vec<Vec<u32>>, index: usize, position: u32)
+/// Pushes a position onto the list of this number, which must have room for it.
+pub(crate) fn push_at(lists: &mut Vec<Vec<u32>>, index: usize, position: u32)
     requires { 0 < spare_at lists.old.items index }
     ensures lists { (i : ℕ) → list_at lists.new.items i
         ≡ (if i == index then list_at lists.old.items i ++ position ∷ []
@@ -120,9 +120,8 @@ pub(crate) fn put_in(lists: &mut Vec<Vec<u32>>, index: usize, position: u32)
     lists[index].push_reserved(position);
 }
 
-/// Puts a position at the end of the list of this number, if `wanted`. The list must then have room
-/// for it.
-pub(crate) fn put_if(lists: &mut Vec<Vec<u32>>, wanted: bool, index: usize, position: u32)
+/// Pushes a position onto the list of this number, if `wanted`. The list must then have room for it.
+pub(crate) fn push_if(lists: &mut Vec<Vec<u32>>, wanted: bool, index: usize, position: u32)
     requires { wanted ≡ true → 0 < spare_at lists.old.items index }
     ensures lists { (i : ℕ) → list_at lists.new.items i
         ≡ (if wanted && (i == index) then list_at lists.old.items i ++ position ∷ []
@@ -132,12 +131,12 @@ pub(crate) fn put_if(lists: &mut Vec<Vec<u32>>, wanted: bool, index: usize, posi
     ensures number { length lists.new.items ≡ length lists.old.items }
 {
     if wanted {
-        put_in(lists, index, position);
+        push_at(lists, index, position);
     }
 }
 
 /// Removes the last position from the list of this number, which must not be empty.
-pub(crate) fn remove_last_in(lists: &mut Vec<Vec<u32>>, index: usize)
+pub(crate) fn remove_last_at(lists: &mut Vec<Vec<u32>>, index: usize)
     requires { 1 ≤ length (list_at lists.old.items index) }
     ensures lists { (i : ℕ) → list_at lists.new.items i
         ≡ (if i == index then take (length (list_at lists.old.items i) - 1)
@@ -162,7 +161,7 @@ pub(crate) fn remove_last_if(lists: &mut Vec<Vec<u32>>, wanted: bool, index: usi
     ensures number { length lists.new.items ≡ length lists.old.items }
 {
     if wanted {
-        remove_last_in(lists, index);
+        remove_last_at(lists, index);
     }
 }
 

@@ -9,8 +9,8 @@ ghost use Rattle.std.specs.Prelude.{◌≡◌, ◌<◌, length};
 
 use super::keys::Key;
 use super::lists::{
-    move_in_all, put_if, put_in, remove_above_in_all, remove_last_if, remove_last_in, reserve_if,
-    reserve_in,
+    move_in_all, push_at, push_if, remove_above_in_all, remove_last_at, remove_last_if, reserve_at,
+    reserve_if,
 };
 use indexmap::IndexSet;
 use std::alloc::{AllocError, Global};
@@ -66,7 +66,7 @@ impl Table {
 
     /// Returns a table without keys. It takes no memory.
     pub(crate) fn new(alloc: Global) -> Table
-        ensures { (w : Bool) (k : Kept) → kept_in result w k ≡ [] }
+        ensures { (only_writes : Bool) (k : Kept) → kept_in result only_writes k ≡ [] }
     {
         Table {
             keys: IndexSet::new(alloc),
@@ -131,8 +131,9 @@ impl Table {
     ) -> Result<Option<usize>, AllocError>
         ensures same { KeepsLists self.old self.new }
         ensures ready { IfOk result (IsReadyIfSome self.new key wrote) }
-        ensures succeeds { ((w : Bool) (k : Kept) → key ≡ Some k → is_kept_in w wrote ≡ true
-            → 0 < spare_in self.old w k) → IsOk result }
+        ensures succeeds { ((only_writes : Bool) (k : Kept) → key ≡ Some k
+            → is_kept_in only_writes wrote ≡ true → 0 < spare_in self.old only_writes k)
+            → IsOk result }
     {
         match key {
             None => Ok(None),
@@ -151,11 +152,11 @@ impl Table {
     fn reserve_under(&mut self, alloc: Global, key: Key, wrote: bool) -> Result<usize, AllocError>
         ensures same { KeepsLists self.old self.new }
         ensures ready { IfOk result (IsReady self.new key wrote) }
-        ensures succeeds { ((w : Bool) → is_kept_in w wrote ≡ true → 0 < spare_in self.old w key)
-            → IsOk result }
+        ensures succeeds { ((only_writes : Bool) → is_kept_in only_writes wrote ≡ true
+            → 0 < spare_in self.old only_writes key) → IsOk result }
     {
         let slot = self.find_or_add(alloc, key)?;
-        reserve_in(&mut self.all, slot)?;
+        reserve_at(&mut self.all, slot)?;
         reserve_if(&mut self.writes, wrote, slot)?;
         Ok(slot)
     }
@@ -222,8 +223,8 @@ impl Table {
         ensures { (k : Kept) → IsReady self.old k wrote slot
             → Puts (Some k) wrote position self.old self.new }
     {
-        put_in(&mut self.all, slot, position);
-        put_if(&mut self.writes, wrote, slot, position);
+        push_at(&mut self.all, slot, position);
+        push_if(&mut self.writes, wrote, slot, position);
     }
 
     /// Removes the last position from the key's list, and from its list of writes if the step
@@ -244,7 +245,7 @@ impl Table {
         ensures { RemovesLast (Some key) wrote self.old self.new }
     {
         if let Some(slot) = self.key_index(key) {
-            remove_last_in(&mut self.all, slot);
+            remove_last_at(&mut self.all, slot);
             remove_last_if(&mut self.writes, wrote, slot);
         }
     }

@@ -38,7 +38,7 @@ pub(crate) fn put_at(slots: &mut Vec<Entry>, order: &mut Vec<u32>, position: usi
 
 /// Makes room for this many elements in all. The elements stay as they are, also on failure. Fails
 /// only if memory is refused, which is asked for only if room is missing.
-pub(crate) fn make_room_in<T>(items: &mut Vec<T>, needed: usize) -> Result<(), AllocError>
+pub(crate) fn make_room<T>(items: &mut Vec<T>, needed: usize) -> Result<(), AllocError>
     ensures items { items.new.items ≡ items.old.items }
     ensures ok { OnOk result (needed ≤ vec_capacity items.new) }
     ensures err { OnErr result (vec_capacity items.old < needed) }

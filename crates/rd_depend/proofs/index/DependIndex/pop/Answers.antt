@@ -3,8 +3,8 @@ use Rattle.rd_depend.proofs.IndexKeys.{separate, value_other, segment_other, in_
 use Rattle.rd_depend.proofs.IndexChanges.{dropped, drops, gives_room, last_after, last_len, last_touched, last_under, touched_by}
 use Rattle.rd_depend.proofs.index.DependIndex.pop.Goals as goal
 
-pub remove_last_in-requires : goal.remove_last_in-requires
-remove_last_in-requires c =
+pub remove_last_at-requires : goal.remove_last_at-requires
+remove_last_at-requires c =
     let x = c.args.entry.now in
     let has : 1 ≤ length (list_at c.args.self.now.by_actor.items x.event.actor) = last_touched c.args.self.now x c.requires (By x.event.actor) (touched_by x) in
     rw c.from.ensures has
@@ -23,14 +23,14 @@ returns-clause-left c = λ es is.
     let len : c.args.self.now.len - 1 + 1 ≡ c.args.self.now.len = omega (arith, last_len c.args.self.now c.args.entry.now c.requires) in
     dropped _ _ c.args.entry.now es
     (drops _ _ c.args.entry.now c.of-homes.result c.remove_last.new.self c.remove_last-2.new.self c.from.result c.of-homes.ensures c.from.ensures
-    len c.remove_last_in.ensures.lists c.remove_last_in.ensures.room c.remove_last.ensures c.remove_last-2.ensures c.remove_last-3.ensures) is
+    len c.remove_last_at.ensures.lists c.remove_last_at.ensures.room c.remove_last.ensures c.remove_last-2.ensures c.remove_last-3.ensures) is
 
 pub returns-clause-room : goal.returns-clause-room
 returns-clause-room c =
     let old = c.args.self.now in
     let new : DependIndex =
-    record { by_actor = c.remove_last_in.new.lists; by_key = c.remove_last-3.new.self; len = old.len - 1; alloc = old.alloc; few = omega (arith, old.few) } in
+    record { by_actor = c.remove_last_at.new.lists; by_key = c.remove_last-3.new.self; len = old.len - 1; alloc = old.alloc; few = omega (arith, old.few) } in
     let len : old.len - 1 + 1 ≡ old.len = omega (arith, last_len old c.args.entry.now c.requires) in
     gives_room old new c.args.entry.now
     (drops old new c.args.entry.now c.of-homes.result c.remove_last.new.self c.remove_last-2.new.self c.from.result c.of-homes.ensures c.from.ensures
-    len c.remove_last_in.ensures.lists c.remove_last_in.ensures.room c.remove_last.ensures c.remove_last-2.ensures c.remove_last-3.ensures)
+    len c.remove_last_at.ensures.lists c.remove_last_at.ensures.room c.remove_last.ensures c.remove_last-2.ensures c.remove_last-3.ensures)

@@ -27,5 +27,5 @@ returns c =
     let third = c.put-3.ensures h.segment.key
     (ready_after _ _ h.segment.key h.segment.wrote h.value _ c.args.slots.segment (λ w q e n. (segment_other h s w q e n).1)
     (ready_after _ _ h.segment.key h.segment.wrote h.place _ c.args.slots.segment (λ w q e n. (segment_other h s w q e n).0) c.requires.ready.segment first) second) in
-    adds _ _ c.args.entry.now h c.put.new.self c.put-2.new.self _ c.from-actor.result c.requires.homes c.from-actor.ensures refl refl c.put_in.ensures.lists
-    c.put_in.ensures.room first second third
+    adds _ _ c.args.entry.now h c.put.new.self c.put-2.new.self _ c.from-actor.result c.requires.homes c.from-actor.ensures refl refl c.push_at.ensures.lists
+    c.push_at.ensures.room first second third

@@ -10,13 +10,13 @@ returns-in_err-grow_to-clause-succeeds c = λ h.
     let there : x.event.actor < length lists = within_spare lists x.event.actor (h (By x.event.actor) (touched_by x)) in
     absurd (false≢true (c.in_err-grow_to.ensures.succeeds (omega arith)))
 
-pub returns-in_err-reserve_in-clause-succeeds : goal.returns-in_err-reserve_in-clause-succeeds
-returns-in_err-reserve_in-clause-succeeds c = λ h.
+pub returns-in_err-reserve_at-clause-succeeds : goal.returns-in_err-reserve_at-clause-succeeds
+returns-in_err-reserve_at-clause-succeeds c = λ h.
     let x = c.args.entry.now in
     let had : 0 < spare_at c.args.self.now.by_actor.items x.event.actor = h (By x.event.actor) (touched_by x) in
     let more : spare_at c.args.self.now.by_actor.items x.event.actor ≤ spare_at c.grow_to.new.lists.items x.event.actor = c.grow_to.ensures.room x.event.actor in
     let has : 0 < spare_at c.grow_to.new.lists.items x.event.actor = omega arith in
-    absurd (false≢true (c.in_err-reserve_in.ensures.succeeds (rw c.from-actor.ensures has)))
+    absurd (false≢true (c.in_err-reserve_at.ensures.succeeds (rw c.from-actor.ensures has)))
 
 pub returns-in_err-place-clause-succeeds : goal.returns-in_err-place-clause-succeeds
 returns-in_err-place-clause-succeeds c = λ h.

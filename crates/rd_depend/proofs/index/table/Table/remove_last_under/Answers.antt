@@ -2,8 +2,8 @@ use Rattle.rd_depend.proofs.Prelude.{◌≡◌, ℕ, true, false, length, Option
 use Rattle.rd_depend.proofs.IndexTable.{removes_last, last_there}
 use Rattle.rd_depend.proofs.index.table.Table.remove_last_under.Goals as goal
 
-pub remove_last_in-requires : goal.remove_last_in-requires
-remove_last_in-requires c =
+pub remove_last_at-requires : goal.remove_last_at-requires
+remove_last_at-requires c =
     last_there c.args.self.now c.args.key c.args.wrote c.in-Some.slot (sym c.in-Some.ensures.slot) (λ w. c.requires w c.args.key refl) false refl
 
 pub remove_last_if-requires : goal.remove_last_if-requires
@@ -12,7 +12,7 @@ remove_last_if-requires c = λ h.
 
 pub returns-in-Some : goal.returns-in-Some
 returns-in-Some c =
-    removes_last _ _ c.args.key c.args.wrote c.in-Some.slot refl c.remove_last_in.ensures.lists c.remove_last_if.ensures.lists c.remove_last_in.ensures.room
+    removes_last _ _ c.args.key c.args.wrote c.in-Some.slot refl c.remove_last_at.ensures.lists c.remove_last_if.ensures.lists c.remove_last_at.ensures.room
     c.remove_last_if.ensures.room (sym c.in-Some.ensures.slot)
 
 pub returns-in_default : goal.returns-in_default
