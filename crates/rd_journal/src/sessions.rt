@@ -135,6 +135,8 @@ impl<const R: usize> Session<R> {
         ensures memory { IfErr result (MayRefuse self.old event) }
         ensures order { IfErr result (λ refusal.
             ComesAfterRoom (length (journal self.new).live) (capacity self.new) refusal) }
+        ensures capacity { length (journal self.old).live + 1 ≤ capacity self.old
+            → capacity self.new ≡ capacity self.old }
         ensures unchanged { OnErr result (KeepsItsSteps self.old self.new) }
     {
         if self.entries.live_len() == MOST_STEPS {

@@ -1,7 +1,7 @@
 //! The bookmarks in the order in which they were set, each a name with the node of its entries. One
 //! more node, `here`, shows how far their entries are known to agree with the session's track.
 
-ghost use Rattle.std.specs.Prelude.{◌≡◌, ◌<◌, ◌≤◌, ◌++◌, [], ◌∷◌, None, map, length, slice_get, is_some, option_map, IsOk, IfOk, IfSome, OnOk, OnErr};
+ghost use Rattle.std.specs.Prelude.{◌≡◌, ◌<◌, ◌≤◌, ◌++◌, [], ◌∷◌, None, map, length, slice_get, vec_capacity, is_some, option_map, IsOk, IfOk, IfSome, OnOk, OnErr};
 ghost use Rattle.std.specs.List.{IsDistinct};
 ghost use Rattle.std.specs.Map.{lookup, remove_entry};
 ghost use Rattle.indexmap.specs.IndexMap.{spare};
@@ -124,6 +124,7 @@ impl Bookmarks {
         requires { IsWithin (stretches_in self.now) of }
         ensures ok { IfOk result (λ list. list.items
             ≡ events (entries_at (stretches_in self.now) of)) }
+        ensures exact { IfOk result (λ list. vec_capacity list ≡ length list.items) }
         ensures succeeds { of.number ≡ 0 → IsOk result }
     {
         self.stretches.events(alloc, of)

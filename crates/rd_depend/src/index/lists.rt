@@ -57,6 +57,8 @@ pub(crate) fn reserve_at(lists: &mut Vec<Vec<u32>>, index: usize) -> Result<(), 
     ensures ok { OnOk result (0 < spare_at lists.new.items index) }
     ensures number { length lists.new.items ≡ length lists.old.items }
     ensures succeeds { 0 < spare_at lists.old.items index → IsOk result }
+    ensures capacity { 0 < spare_at lists.old.items index
+        → (i : ℕ) → capacity_at lists.new.items i ≡ capacity_at lists.old.items i }
 {
     reserve(&mut lists[index])
 }
@@ -75,6 +77,8 @@ pub(crate) fn reserve_if(
     ensures ok { OnOk result (wanted ≡ true → 0 < spare_at lists.new.items index) }
     ensures number { length lists.new.items ≡ length lists.old.items }
     ensures succeeds { (wanted ≡ true → 0 < spare_at lists.old.items index) → IsOk result }
+    ensures capacity { (wanted ≡ true → 0 < spare_at lists.old.items index)
+        → (i : ℕ) → capacity_at lists.new.items i ≡ capacity_at lists.old.items i }
 {
     if wanted {
         reserve_at(lists, index)
@@ -90,6 +94,7 @@ fn reserve(list: &mut Vec<u32>) -> Result<(), AllocError>
     ensures room { vec_spare list.old ≤ vec_spare list.new }
     ensures ok { OnOk result (0 < vec_spare list.new) }
     ensures succeeds { 0 < vec_spare list.old → IsOk result }
+    ensures capacity { 0 < vec_spare list.old → vec_capacity list.new ≡ vec_capacity list.old }
 {
     if list.len() < list.capacity() {
         return Ok(());
@@ -115,6 +120,7 @@ pub(crate) fn push_at(lists: &mut Vec<Vec<u32>>, index: usize, position: u32)
         else list_at lists.old.items i) }
     ensures room { (i : ℕ) → spare_at lists.old.items i
         ≤ spare_at lists.new.items i + cond (i == index) 1 0 }
+    ensures capacity { (i : ℕ) → capacity_at lists.new.items i ≡ capacity_at lists.old.items i }
     ensures number { length lists.new.items ≡ length lists.old.items }
 {
     lists[index].push_reserved(position);
@@ -128,6 +134,7 @@ pub(crate) fn push_if(lists: &mut Vec<Vec<u32>>, wanted: bool, index: usize, pos
         else list_at lists.old.items i) }
     ensures room { (i : ℕ) → spare_at lists.old.items i
         ≤ spare_at lists.new.items i + cond (wanted && (i == index)) 1 0 }
+    ensures capacity { (i : ℕ) → capacity_at lists.new.items i ≡ capacity_at lists.old.items i }
     ensures number { length lists.new.items ≡ length lists.old.items }
 {
     if wanted {

@@ -1,6 +1,6 @@
 //! How a book does a command, and lists of commands.
 
-ghost use Rattle.std.specs.Prelude.{◌≡◌, [], None, Some, IsOk, OnErr, IfOk, IfErr};
+ghost use Rattle.std.specs.Prelude.{◌≡◌, [], None, Some, length, vec_capacity, IsOk, OnErr, IfOk, IfErr};
 ghost use Rattle.rd_step.specs.declared.entries.Event.{Event as Happening};
 ghost use Rattle.rd_journal.specs.Sessions.{journal, MayRefuse};
 ghost use Rattle.std.specs.Result.{ForErr};
@@ -95,6 +95,7 @@ impl<const R: usize> Book<R> {
         ensures headline { IfOk result (λ answers.
             Headline (book_state self.old) commands.now answers.items (book_state self.new)
             (journal (session_of self.new))) }
+        ensures exact { IfOk result (λ answers. vec_capacity answers ≡ length commands.now) }
         ensures err { IfErr result (λ refusal. refusal ≡ Refusal.NoMemory) }
         ensures succeeds { commands.now ≡ [] → IsOk result }
         ensures start { (book_state self.new).session.start ≡ (book_state self.old).session.start }

@@ -1,6 +1,6 @@
 //! Reading a node: one event, all events, or the entries after the first `n`.
 
-ghost use Rattle.std.specs.Prelude.{◌≡◌, ◌<◌, ◌≤◌, ◌-◌, Some, drop, slice_get, IsOk, IsSome, IfOk, IfSome, OnErr};
+ghost use Rattle.std.specs.Prelude.{◌≡◌, ◌<◌, ◌≤◌, ◌-◌, Some, drop, length, slice_get, vec_capacity, IsOk, IsSome, IfOk, IfSome, OnErr};
 ghost use Rattle.std.specs.Cow.{cow_slice_items};
 ghost use Rattle.rd_step.specs.Run.{events};
 ghost use Rattle.rd_step.specs.Lists.{numbered};
@@ -108,6 +108,7 @@ impl Stretches {
         requires within { n ≤ of.number }
         ensures ok { IfOk result (λ entries. entries.items
             ≡ drop n (entries_at self.now.list.items of)) }
+        ensures exact { IfOk result (λ entries. vec_capacity entries ≡ length entries.items) }
         ensures succeeds { of.number ≡ n → IsOk result }
     {
         let mut entries = Vec::with_capacity(alloc, of.number - n)?;
@@ -130,6 +131,7 @@ impl Stretches {
     pub(crate) fn events(&self, alloc: Global, of: Node) -> Result<Vec<Event>, AllocError>
         requires { IsWithin self.now.list.items of }
         ensures ok { IfOk result (λ list. list.items ≡ events (entries_at self.now.list.items of)) }
+        ensures exact { IfOk result (λ list. vec_capacity list ≡ length list.items) }
         ensures succeeds { of.number ≡ 0 → IsOk result }
     {
         let entries = self.entries_after(alloc, of, 0)?;

@@ -7,7 +7,7 @@ invariant-loop-at l = record {
   read : entries_at l.self.list.items l.fn.of ≡ entries_at l.self.list.items l.at ++ reverse l.entries.items;
   least : l.n ≤ l.at.number;
   len : vec_len l.entries + l.at.number ≡ l.fn.of.number;
-  capacity : l.fn.of.number - l.n ≤ vec_capacity l.entries;
+  capacity : vec_capacity l.entries ≡ l.fn.of.number - l.n;
 }
 
 abbrev pub decreases-loop-at : goal.decreases-loop-at
