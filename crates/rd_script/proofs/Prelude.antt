@@ -8,9 +8,9 @@ pub use Rattle.std.specs.Str.Parse.{ParsesUnsigned}
 pub use Rattle.std.proofs.lemmas.Iterator.Splits.{YieldsList-from_slice_split}
 pub use Rattle.rd_cell.proofs.Prelude.{AllZip, Appends, Bool, Bor, cond, count_by, Consumes, Decides-eqb, Err, IfNone, IfSome, IsAtEnd, IsErrAnd, IsOkAnd, IsUtf8-from_ascii, Keeps, List, None, Ok, Option, Result, Some, YieldsList, YieldsList-end, YieldsList-turn, [], and_parts, ap, append-nil, append_assoc, arith, codes, common_steps, decimal, drop, eq-eqb, false, flat_map-append, get_or, if◌then◌else◌, inl, inr, is_some, join_with_byte, length, length-append, length-drop, length-map, list_all, list_all-append, map, map-append, nat_eq, nat_tests, ne_eqb, nil_from_length, not, onto_first, refl, rules, slice_index_or, slice_split, strip_suffix_is, subst, suc, sym, take, take-add, take-append-drop, take_rest, tests, true, true≢false, unwrap_or, ℕ, ◌%◌, ◌++◌, ◌+◌, ◌-◌, ◌<◌, ◌==◌, ◌^◌, ◌∙◌, ◌∷◌, ◌≡◌, ◌≢◌, ◌≤◌, ◌⊎◌}
 pub use Rattle.rd_step.proofs.Prelude.{Place}
-pub use Rattle.rd_marks.proofs.Prelude.{AreObeyed, BookState, Refusal, as_reply, book_state, fact_passed_up, is_mark_name, is_name_byte, journal, session_of}
+pub use Rattle.rd_marks.proofs.Prelude.{AreObeyed, BookState, Refusal, book_state, fact_passed_up, is_mark_name, is_name_byte, journal, session_of}
 pub use Rattle.rd_cell.specs.declared.places.SegName.{SegName}
-pub use Rattle.rd_marks.proofs.ObeyLemmas.{event_obeyed, one_more_obeyed}
+pub use Rattle.rd_marks.proofs.ObeyLemmas.{one_more_obeyed}
 pub use Rattle.rd_marks.specs.declared.books.Book.{Book}
 pub use Rattle.rd_marks.specs.declared.commands.Command.{Command}
 pub use Rattle.rd_marks.specs.declared.replies.Reply.{Reply}

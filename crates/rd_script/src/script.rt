@@ -1,12 +1,14 @@
 //! A script: each line is read, obeyed and answered before the next one is read.
 
-ghost use Rattle.std.specs.Prelude.{◌≡◌, Result, false, IfErr};
+ghost use Rattle.std.specs.Prelude.{◌≡◌, Result, Some, false, IfErr};
 ghost use Rattle.std.specs.Result.{ForErr};
 ghost use Rattle.rd_cell.specs.declared.refusal.Refusal.{Refusal};
+ghost use Rattle.rd_step.specs.declared.entries.Event.{Event as Happening};
 ghost use Rattle.rd_journal.specs.Sessions.{journal, MayRefuse};
 ghost use Rattle.rd_marks.specs.declared.replies.Reply.{Reply};
 ghost use Rattle.rd_marks.specs.Book.{book_state, session_of, MayRefuseIfGoto};
-ghost use Rattle.rd_marks.specs.Commands.{IsEventAnswer, IsObeyed};
+ghost use Rattle.rd_marks.specs.Commands.{IsObeyed};
+ghost use Rattle.rd_marks.specs.Events.{as_event};
 ghost use Rattle.rd_script.specs.Streams.{devices};
 ghost use Rattle.rd_script.specs.Replies.{answer_text};
 ghost use Rattle.rd_script.specs.Answers.{line_answer};
@@ -18,10 +20,9 @@ use super::devices::sinks::Sink;
 use super::devices::sources::Source;
 use super::faults::ScriptFault;
 use super::reading::lines::Line;
-use super::writing::lines::{set_event_reply, set_refusal, set_reply};
+use super::writing::lines::{set_refusal, set_reply};
 use super::writing::texts::Text;
 use rd_marks::{Book, Command};
-use rd_step::Event;
 
 /// Runs a script over a book: reads its lines to the end, obeys each when it is complete and writes
 /// its answer at once. Returns the number of lines. Neither the reader nor the writer may have
@@ -65,27 +66,8 @@ impl<const R: usize> Answerer for Book<R> {
     fn answer(&mut self, line: &Line, text: &mut Text) {
         match line.command() {
             Err(fault) => set_refusal(text, &AnyRefusal::Unread(fault)),
-            Ok(command) => match command.as_event() {
-                Some(event) => answer_event(self, event, text),
-                None => answer_command(self, command, text),
-            },
+            Ok(command) => answer_command(self, command, text),
         }
-    }
-}
-
-/// Makes an event happen, and replaces the text by the line of its answer, which may be a refusal.
-/// A refused event changes nothing in the book.
-fn answer_event<const R: usize>(book: &mut Book<R>, event: Event, text: &mut Text)
-    ensures answers { (answer : Result Reply Refusal)
-        × IsEventAnswer (book_state book.old) event
-        (record { answer = answer; state = book_state book.new })
-        × IfErr answer (MayRefuse (session_of book.old) event)
-        × (text.new.items ≡ answer_text (line_answer answer)) }
-    ensures start { (book_state book.new).session.start ≡ (book_state book.old).session.start }
-{
-    match book.apply(event) {
-        Err(refusal) => set_refusal(text, &AnyRefusal::Refused(refusal)),
-        Ok(done) => set_event_reply(text, done),
     }
 }
 
@@ -95,6 +77,8 @@ fn answer_command<const R: usize>(book: &mut Book<R>, command: Command, text: &m
     ensures answers { (answer : Result Reply Refusal)
         × IsObeyed (book_state book.old) command
         (record { answer = answer; state = book_state book.new })
+        × IfErr answer (λ refusal. (event : Happening) → as_event command ≡ Some event
+        → MayRefuse (session_of book.old) event refusal)
         × ForErr answer (MayRefuseIfGoto book.old command)
         × (text.new.items ≡ answer_text (line_answer answer)) }
     ensures start { (book_state book.new).session.start ≡ (book_state book.old).session.start }

@@ -1,12 +1,11 @@
 //! The line of an answer in a report.
 //!
 //! A run makes the lines of all its answers in one buffer, so that no answer needs a new one. There
-//! is a function for each part of an answer, because copying a whole `LineAnswer` or `Reply`, which
-//! has room for a step's entry, takes time.
+//! is a function for each kind of answer, because copying a whole `LineAnswer`, which has room for
+//! a step's entry, takes time.
 
 ghost use Rattle.std.specs.Prelude.{◌≡◌, [], ◌∷◌, Ok, Err, IfErr, OnOk, OnErr, false, true};
 ghost use Rattle.std.specs.Io.KnownBytes.{Appends};
-ghost use Rattle.rd_marks.specs.Events.{as_reply};
 ghost use Rattle.rd_script.specs.Device.{TakesBeginning};
 ghost use Rattle.rd_script.specs.Calls.{numbered_text};
 ghost use Rattle.rd_script.specs.Headings.{viewer_refusal_text};
@@ -15,12 +14,12 @@ ghost use Rattle.rd_script.specs.Replies.{answer_text, answer_words};
 
 use super::numbers::{put_number_or_hyphen, put_words_and_number};
 use super::refusals::put_any_refusal;
-use super::replies::{put_event_reply, put_reply};
+use super::replies::put_reply;
 use super::texts::{Text, put};
 use crate::answers::{AnyRefusal, LineAnswer};
 use crate::devices::sinks::{Sink, write_all};
 use crate::faults::ScriptFault;
-use rd_marks::{EventReply, Reply};
+use rd_marks::Reply;
 
 /// Replaces the text by the line of an answer, with its line feed.
 pub fn set_answer(text: &mut Text, answer: &LineAnswer)
@@ -59,15 +58,6 @@ pub fn set_reply(text: &mut Text, reply: &Reply)
 {
     text.clear();
     put_reply(text, reply);
-    end_line(text);
-}
-
-/// Replaces the text by the line of the reply to an event, with its line feed.
-pub fn set_event_reply(text: &mut Text, done: EventReply)
-    ensures { text.new.items ≡ answer_text (Ok (as_reply done)) }
-{
-    text.clear();
-    put_event_reply(text, done);
     end_line(text);
 }
 

@@ -2,7 +2,6 @@
 
 ghost use Rattle.std.specs.Prelude.{◌≤◌, ◌+◌, length};
 ghost use Rattle.rd_marks.specs.Names.{bytes_of};
-ghost use Rattle.rd_marks.specs.Events.{as_reply};
 ghost use Rattle.rd_script.specs.Puts.{Puts, PutsUpTo};
 ghost use Rattle.rd_script.specs.Replies.{ended_call_words, origin_words, number_or_none, reply_words};
 
@@ -13,7 +12,7 @@ use super::steps::{put_result, put_step};
 use super::texts::{Text, put};
 use crate::reading::keywords::Keyword;
 use rd_actor::OpReply;
-use rd_marks::{EventReply, MarkName, Reply};
+use rd_marks::{MarkName, Reply};
 use rd_origin::Origin;
 
 /// Appends to the text the words of a reply.
@@ -21,7 +20,10 @@ pub fn put_reply(text: &mut Text, reply: &Reply)
     ensures { PutsUpTo 400 text.old.items text.new.items (reply_words reply.now) }
 {
     match *reply {
-        Reply::Applied { step, reply } => put_event_reply(text, EventReply { step, reply }),
+        Reply::Applied { step, reply } => {
+            put_words_and_number(text, b"ok", step);
+            put_ended_call(text, reply);
+        }
         Reply::At { live, undone } => {
             put_words_and_number(text, b"at", live);
             put_spaced_number(text, undone);
@@ -49,14 +51,6 @@ pub fn put_reply(text: &mut Text, reply: &Reply)
         Reply::Actor(ref actor) => put_actor(text, actor),
         Reply::Step { number, ref entry } => put_step(text, number, entry),
     }
-}
-
-/// Appends to the text the words of the reply to an event.
-pub fn put_event_reply(text: &mut Text, done: EventReply)
-    ensures { PutsUpTo 50 text.old.items text.new.items (reply_words (as_reply done)) }
-{
-    put_words_and_number(text, b"ok", done.step);
-    put_ended_call(text, done.reply);
 }
 
 /// Appends to the text a space and the result of the call that an event ended, or nothing if it
