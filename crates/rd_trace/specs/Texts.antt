@@ -17,7 +17,7 @@ abbrev pub joined_text : Bool → Items → List ℕ
 joined_text later no_items = []
 joined_text later (item d ds) = comma_if later ++ (compact_text d ++ joined_text true ds)
 
--- the value, written as JSON, is read as itself, and its numbers are numbers of JSON
+-- each number of d has a JSON text, and reading the written value gives d
 pub record IsReadBack (d : Data) : Type 0 where
   pub numbers : HasNumbers (outline d)
   pub back : of_json (outline d) ≡ Some d

@@ -86,9 +86,15 @@ fn put_event(text: &mut String, event: Event) -> Result<(), AllocError>
     ensures back { IsReadBack (event_data event) }
 {
     match event.act {
-        Act::Enq(x) => put_number_event(text, "[\"enq\",", event.actor, x),
+        Act::Enq(x) => {
+            number_is_read_back(x);
+            put_number_event(text, "[\"enq\",", event.actor, x)
+        }
         Act::Deq => put_actor_between(text, "[\"deq\",", event.actor, "]"),
-        Act::AEnq(x) => put_number_event(text, "[\"aenq\",", event.actor, x),
+        Act::AEnq(x) => {
+            number_is_read_back(x);
+            put_number_event(text, "[\"aenq\",", event.actor, x)
+        }
         Act::ADeq => put_actor_between(text, "[\"adeq\",", event.actor, "]"),
         Act::Go => put_actor_between(text, "[\"go\",", event.actor, "]"),
         Act::Starve(choice) => put_actor_between(
@@ -100,14 +106,20 @@ fn put_event(text: &mut String, event: Event) -> Result<(), AllocError>
     }
 }
 
+/// Does nothing. The JSON value of a number below 2^64 is read back, and each `u64` is one.
+fn number_is_read_back(x: u64)
+    ensures { IsReadBack (number (unsigned x)) }
+{
+    let _x = x;
+}
+
 /// Appends the text of an event that has a number: `opening`, which is the bracket, the word and a
 /// comma; the actor, a comma, the number, and the closing bracket. Fails only if memory is refused;
 /// the text may then end with a beginning of this.
 fn put_number_event(text: &mut String, opening: &str, actor: u8, x: u64) -> Result<(), AllocError>
-    ensures ok { OnOk result (string_bytes text.new
+    ensures { OnOk result (string_bytes text.new
         ≡ string_bytes text.old ++ (opening.now
         ++ (decimal actor ++ (44 ∷ (decimal x ++ 93 ∷ []))))) }
-    ensures back { IsReadBack (number (unsigned x)) }
 {
     put_actor_between(text, opening, actor, ",")?;
     put_number(text, x)?;

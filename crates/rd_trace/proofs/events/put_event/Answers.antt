@@ -4,10 +4,10 @@ use Rattle.rd_trace.proofs.TextLemmas.{event_array_back, event_pair_back, event_
 use Rattle.rd_trace.proofs.events.put_event.Goals as goal
 
 pub returns-in-Enq-clause-back : goal.returns-in-Enq-clause-back
-returns-in-Enq-clause-back c = event_array_back c.args.event (act.Enq c.in-Enq.x) c.in-Enq.is (event_triple_back (codes "enq") _ _ (omega arith) c.put_number_event.ensures.back)
+returns-in-Enq-clause-back c = event_array_back c.args.event (act.Enq c.in-Enq.x) c.in-Enq.is (event_triple_back (codes "enq") _ _ (omega arith) c.number_is_read_back.ensures)
 
 pub returns-in-AEnq-clause-back : goal.returns-in-AEnq-clause-back
-returns-in-AEnq-clause-back c = event_array_back c.args.event (act.AEnq c.in-AEnq.x) c.in-AEnq.is (event_triple_back (codes "aenq") _ _ (omega arith) c.put_number_event-in-AEnq.ensures.back)
+returns-in-AEnq-clause-back c = event_array_back c.args.event (act.AEnq c.in-AEnq.x) c.in-AEnq.is (event_triple_back (codes "aenq") _ _ (omega arith) c.number_is_read_back-in-AEnq.ensures)
 
 pub returns-in-Deq-clause-back : goal.returns-in-Deq-clause-back
 returns-in-Deq-clause-back c = event_array_back c.args.event act.Deq c.in-Deq.is (event_pair_back (codes "deq") _ (omega arith))
