@@ -10,7 +10,7 @@ ghost use Rattle.rd_trace.specs.Numbers.{byte_number};
 ghost use Rattle.rd_trace.specs.Actors.{op_of, op_data, val_of, SpellsActor, actor_data};
 
 use super::members::{member_count, number_at};
-use super::names::{segment_name_in, segment_name_json};
+use super::names::{parse_segment_name, segment_name_json};
 use super::spelled::{Plain, Written};
 use rd_actor::{Actor, Op, Pc};
 use serde_json::{Map, Value, json, put};
@@ -47,7 +47,7 @@ impl Plain for Actor {
     ghost spells = { SpellsActor };
 
     /// Returns the actor that a JSON value spells; none if it spells none.
-    fn in_value(value: &Value) -> Option<Actor> {
+    fn parse_value(value: &Value) -> Option<Actor> {
         if member_count(value)? != MEMBERS {
             return None;
         }
@@ -59,13 +59,13 @@ impl Plain for Actor {
             pass: u8::try_from(number_at(value, PASS)?).ok()?,
             closed: value.get(CLOSED).and_then(Value::as_bool)?,
             safe: value.get(SAFE).and_then(Value::as_bool)?,
-            crq: value.get(CRQ).and_then(segment_name_in)?,
-            new: value.get(NEW).and_then(segment_name_in)?,
-            next: value.get(NEXT).and_then(segment_name_in)?,
-            op: value.get(OP).and_then(op_in)?,
+            crq: value.get(CRQ).and_then(parse_segment_name)?,
+            new: value.get(NEW).and_then(parse_segment_name)?,
+            next: value.get(NEXT).and_then(parse_segment_name)?,
+            op: value.get(OP).and_then(parse_op)?,
             t: number_at(value, T)?,
             h: number_at(value, H)?,
-            val: value.get(VAL).and_then(val_in)?,
+            val: value.get(VAL).and_then(parse_val)?,
             idx: number_at(value, IDX)?,
         })
     }
@@ -127,7 +127,7 @@ fn pass_json(pass: u8) -> Value
 
 /// Returns what a JSON value spells as the value of a cell or an actor: no value for `null`, the
 /// number for a whole number; none for anything else.
-pub fn val_in(value: &Value) -> Option<Option<u64>>
+pub fn parse_val(value: &Value) -> Option<Option<u64>>
     ensures { result ≡ val_of (view value.now) }
 {
     if value.is_null() {
@@ -138,7 +138,7 @@ pub fn val_in(value: &Value) -> Option<Option<u64>>
 
 /// Returns the call that a JSON value spells, or no call for `null`; none if the JSON value spells
 /// neither.
-fn op_in(value: &Value) -> Option<Option<Op>>
+fn parse_op(value: &Value) -> Option<Option<Op>>
     ensures { result ≡ op_of (view value.now) }
 {
     if value.is_null() {

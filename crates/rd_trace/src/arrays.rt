@@ -26,7 +26,7 @@ const HEAD: &str = "head";
 const TAIL: &str = "tail";
 
 /// Returns the array that a JSON value spells; none if it spells none.
-pub fn array_parts_in(value: &Value) -> Option<ArrayParts>
+pub fn parse_array_parts(value: &Value) -> Option<ArrayParts>
     ensures some { IfSome result (SpellsArray (view value.now)) }
     ensures none { IfNone result ((parts : ArrayParts) → SpellsArray (view value.now) parts → ⊥) }
 {
@@ -36,7 +36,7 @@ pub fn array_parts_in(value: &Value) -> Option<ArrayParts>
     Some(ArrayParts {
         head: number_at(value, HEAD)?,
         tail: number_at(value, TAIL)?,
-        cells: slots_in(items_at(value, CELLS)?)?,
+        cells: parse_slots(items_at(value, CELLS)?)?,
     })
 }
 
@@ -50,7 +50,7 @@ pub fn array_parts_json(alloc: Global, array: &ArrayParts) -> Result<Value, Allo
 
 /// Returns all slots of the array, from a list of those that aren't empty. Returns none if a value
 /// spells no slot, or if the positions don't ascend or one is not below `SLOTS`.
-fn slots_in(list: &Vec<Value>) -> Option<[ArrSlot; SLOTS]>
+fn parse_slots(list: &Vec<Value>) -> Option<[ArrSlot; SLOTS]>
     ensures some { IfSome result (λ slots.
         SpellEach (Gives slot_of) (items_view list.now.items) (filled_slots 0 slots)) }
     ensures length { IfSome result (λ slots. length slots ≡ SLOTS) }
@@ -60,7 +60,7 @@ fn slots_in(list: &Vec<Value>) -> Option<[ArrSlot; SLOTS]>
     let mut slots = [ArrSlot::Empty; SLOTS];
     let mut free = 0;
     for value in list {
-        let (position, slot) = slot_in(value)?;
+        let (position, slot) = parse_slot(value)?;
         if position < free || position >= SLOTS {
             return None;
         }
@@ -113,7 +113,7 @@ const TOP: &str = "top";
 /// spelled `"top"` and a value as its number; none if it spells none. The position may be `SLOTS`
 /// or more.
 #[tactic(auto, using(crate::proofs::ArrayLemmas::spells_no_slot))]
-fn slot_in(value: &Value) -> Option<(usize, ArrSlot)>
+fn parse_slot(value: &Value) -> Option<(usize, ArrSlot)>
     ensures { result ≡ slot_of (view value.now) }
 {
     let [position, content] = value.as_array()?.as_slice() else {

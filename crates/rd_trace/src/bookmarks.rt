@@ -13,7 +13,7 @@ ghost use Rattle.rd_trace.specs.Texts.{AreAppended, IsMarkAppended};
 use super::events::put_events;
 use super::faults::TraceFault;
 use super::members::{items_at, member_count};
-use super::spelled::list_in;
+use super::spelled::parse_list;
 use super::texts::comma_after;
 use rd_cell::limits::MOST_MARKS;
 use rd_marks::{Book, MarkName};
@@ -43,7 +43,7 @@ pub struct SavedMark {
 ///
 /// `BadTrace` if a value spells no bookmark, if two bookmarks have one name, or if there are more
 /// than 64; `NoMemory` if memory was refused.
-pub fn marks_in(alloc: Global, list: &Vec<Value>) -> Result<Vec<SavedMark>, TraceFault>
+pub fn parse_marks(alloc: Global, list: &Vec<Value>) -> Result<Vec<SavedMark>, TraceFault>
     ensures { Reads saved_marks (SpellMarksOfBook (items_view list.now.items)) result }
 {
     let count = list.len();
@@ -52,7 +52,7 @@ pub fn marks_in(alloc: Global, list: &Vec<Value>) -> Result<Vec<SavedMark>, Trac
     }
     let mut marks = Vec::with_capacity(alloc, count)?;
     for value in list {
-        let mark = mark_in(alloc, value)?;
+        let mark = parse_mark(alloc, value)?;
         if marks
             .iter()
             .any(|other: &SavedMark| mark.name == other.name)
@@ -66,7 +66,7 @@ pub fn marks_in(alloc: Global, list: &Vec<Value>) -> Result<Vec<SavedMark>, Trac
 
 /// Returns the bookmark that a JSON value spells. Fails with `BadTrace` if it spells none, and with
 /// `NoMemory` if memory is refused.
-fn mark_in(alloc: Global, value: &Value) -> Result<SavedMark, TraceFault>
+fn parse_mark(alloc: Global, value: &Value) -> Result<SavedMark, TraceFault>
     ensures { Reads saved_mark (SpellsMark (view value.now)) result }
 {
     if member_count(value) != Some(MEMBERS) {
@@ -80,7 +80,7 @@ fn mark_in(alloc: Global, value: &Value) -> Result<SavedMark, TraceFault>
     };
     Ok(SavedMark {
         name,
-        events: list_in(alloc, items_at(value, EVENTS))?,
+        events: parse_list(alloc, items_at(value, EVENTS))?,
     })
 }
 

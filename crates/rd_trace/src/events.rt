@@ -22,14 +22,14 @@ impl Plain for Event {
     ghost spells = { Gives event_of };
 
     /// Returns the event that a JSON value spells; none if it spells none.
-    fn in_value(value: &Value) -> Option<Event> {
+    fn parse_value(value: &Value) -> Option<Event> {
         let (word, actor, value) = match value.as_array()?.as_slice() {
             [word, actor] => (word, actor, None),
             [word, actor, value] => (word, actor, Some(value)),
             _ => return None,
         };
         Some(Event {
-            act: act_in(word.as_str()?, value)?,
+            act: parse_act(word.as_str()?, value)?,
             actor: u8::try_from(actor.as_u64()?).ok()?,
         })
     }
@@ -37,7 +37,7 @@ impl Plain for Event {
 
 /// Returns the act that a word spells, with the JSON value after the actor if there is one; none if
 /// they spell none.
-fn act_in(word: &str, value: Option<&Value>) -> Option<Act>
+fn parse_act(word: &str, value: Option<&Value>) -> Option<Act>
     ensures alone { IsNone value.entry → result ≡ act_of_word word.now }
     ensures with_value { IfSome value.entry (λ d. result ≡ act_with_value word.now (view d.now)) }
 {

@@ -14,7 +14,7 @@ ghost use Rattle.rd_trace.specs.Writing.{IsTextOf};
 use super::faults::TraceFault;
 use super::members::number_at;
 use super::replay::{go_to, set_marks, step_all, world_of};
-use super::saved::{SavedSession, session_in};
+use super::saved::{SavedSession, parse_session};
 use rd_journal::Session;
 use rd_marks::Book;
 use rd_script::AnyBook;
@@ -65,7 +65,7 @@ fn book_of<const R: usize>(alloc: Global, value: Value) -> Result<Book<R>, Trace
     requires ring { number_at (codes "ring") (view value) ≡ Some R }
     ensures { LoadsValue (view value) result }
 {
-    let session: SavedSession<R> = session_in(alloc, &value)?;
+    let session: SavedSession<R> = parse_session(alloc, &value)?;
     drop(value);
     let world = world_of(alloc, session.start)?;
     let mut book = Book::open(alloc, Session::open(alloc, world));

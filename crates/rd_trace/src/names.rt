@@ -10,7 +10,7 @@ use serde_json::{Value, json};
 use std::alloc::{AllocError, Global};
 
 /// Returns the name of a segment that a JSON value spells; none if it spells none.
-pub fn segment_name_in(value: &Value) -> Option<SegName>
+pub fn parse_segment_name(value: &Value) -> Option<SegName>
     ensures { result ≡ segment_name_of (view value.now) }
 {
     let items = value.as_array()?;

@@ -13,12 +13,12 @@ ghost use Rattle.rd_trace.specs.Saved.{saved_trace, IsVersion1, IsVersion2, IsEi
 ghost use Rattle.rd_trace.specs.Texts.{AreAppended};
 ghost use Rattle.rd_trace.specs.Writing.{IsTextOf};
 
-use super::bookmarks::{SavedMark, marks_in, put_marks};
+use super::bookmarks::{SavedMark, parse_marks, put_marks};
 use super::events::put_next_event;
 use super::faults::TraceFault;
 use super::members::{items_at, member_count, number_at};
-use super::spelled::list_in;
-use super::starts::{Start, actor_count_at, put_start, start_in};
+use super::spelled::parse_list;
+use super::starts::{Start, actor_count_at, parse_start, put_start};
 use super::texts::put_number;
 use rd_journal::Session;
 use rd_marks::Book;
@@ -68,7 +68,7 @@ pub struct SavedSession<const R: usize> {
 ///
 /// `BadTrace` if it spells none; `NoMemory` if memory was refused.
 #[tactic(auto, using(crate::proofs::SavedLemmas::version1_read, crate::proofs::SavedLemmas::version2_read))]
-pub fn session_in<const R: usize>(
+pub fn parse_session<const R: usize>(
     alloc: Global,
     value: &Value,
 ) -> Result<SavedSession<R>, TraceFault>
@@ -77,8 +77,8 @@ pub fn session_in<const R: usize>(
     ensures { Reads saved_trace (IsEitherVersion (view value.now)) result }
 {
     match (number_at(value, VERSION), member_count(value)) {
-        (Some(1), Some(VERSION_1_MEMBERS)) => version_1_session_in(alloc, value),
-        (Some(WRITTEN_VERSION), Some(VERSION_2_MEMBERS)) => version_2_session_in(alloc, value),
+        (Some(1), Some(VERSION_1_MEMBERS)) => parse_version_1_session(alloc, value),
+        (Some(WRITTEN_VERSION), Some(VERSION_2_MEMBERS)) => parse_version_2_session(alloc, value),
         _ => Err(TraceFault::BadTrace),
     }
 }
@@ -87,7 +87,7 @@ pub fn session_in<const R: usize>(
 /// nothing undone and no bookmark. The value must be an object of four members, with the version 1
 /// and rings of `R` cells, and `R` must be at most 64. Fails with `BadTrace` if it spells none, and
 /// with `NoMemory` if memory is refused.
-fn version_1_session_in<const R: usize>(
+fn parse_version_1_session<const R: usize>(
     alloc: Global,
     value: &Value,
 ) -> Result<SavedSession<R>, TraceFault>
@@ -103,7 +103,7 @@ fn version_1_session_in<const R: usize>(
     Ok(SavedSession {
         start: Start::Fresh(actors),
         marks: Vec::new(alloc),
-        events: list_in(alloc, items_at(value, EVENTS))?,
+        events: parse_list(alloc, items_at(value, EVENTS))?,
         undone: Vec::new(alloc),
     })
 }
@@ -111,7 +111,7 @@ fn version_1_session_in<const R: usize>(
 /// Returns the session that a JSON value spells as a trace of version 2. The value must be an
 /// object of six members, with the version 2 and rings of `R` cells, and `R` must be at most 64.
 /// Fails with `BadTrace` if it spells none, and with `NoMemory` if memory is refused.
-fn version_2_session_in<const R: usize>(
+fn parse_version_2_session<const R: usize>(
     alloc: Global,
     value: &Value,
 ) -> Result<SavedSession<R>, TraceFault>
@@ -128,10 +128,10 @@ fn version_2_session_in<const R: usize>(
         return Err(TraceFault::BadTrace);
     };
     Ok(SavedSession {
-        start: start_in(alloc, start)?,
-        marks: marks_in(alloc, marks)?,
-        events: list_in(alloc, items_at(value, EVENTS))?,
-        undone: list_in(alloc, items_at(value, UNDONE))?,
+        start: parse_start(alloc, start)?,
+        marks: parse_marks(alloc, marks)?,
+        events: parse_list(alloc, items_at(value, EVENTS))?,
+        undone: parse_list(alloc, items_at(value, UNDONE))?,
     })
 }
 

@@ -9,11 +9,11 @@ ghost use Rattle.rd_ring.specs.declared.parts.SegmentParts.{SegmentParts};
 ghost use Rattle.rd_trace.specs.Spelled.{Gives, SpellEach};
 ghost use Rattle.rd_trace.specs.Segments.{cell_of, cell_data, SpellsSegment, SpellsSegmentList, segment_data, segment_list_data};
 
-use super::actors::val_in;
+use super::actors::parse_val;
 use super::faults::TraceFault;
 use super::members::{items_at, member_count, number_at};
-use super::names::{next_json, segment_name_in};
-use super::spelled::{Plain, Spelled, Written, list_in, list_json};
+use super::names::{next_json, parse_segment_name};
+use super::spelled::{Plain, Spelled, Written, list_json, parse_list};
 use rd_cell::Cell;
 use rd_step::SegmentParts;
 use serde_json::{Value, json};
@@ -40,7 +40,7 @@ impl<const R: usize> Spelled for Vec<SegmentParts<R>> {
     /// Returns the list of segments that a JSON value spells. `R` must be at most 64. Fails with
     /// `BadTrace` if it spells none, and with `NoMemory` if memory is refused.
     fn from_value(alloc: Global, value: &Value) -> Result<Vec<SegmentParts<R>>, TraceFault> {
-        list_in(alloc, value.as_array())
+        parse_list(alloc, value.as_array())
     }
 }
 
@@ -60,7 +60,7 @@ impl<const R: usize> Plain for SegmentParts<R> {
 
     /// Returns the segment that a JSON value spells; none if it spells none. `R` must be at most
     /// 64.
-    fn in_value(value: &Value) -> Option<SegmentParts<R>> {
+    fn parse_value(value: &Value) -> Option<SegmentParts<R>> {
         if member_count(value)? != MEMBERS {
             return None;
         }
@@ -70,9 +70,9 @@ impl<const R: usize> Plain for SegmentParts<R> {
             closed: value.get(CLOSED).and_then(Value::as_bool)?,
             next: match value.get(NEXT)? {
                 Value::Null => None,
-                name => Some(segment_name_in(name)?),
+                name => Some(parse_segment_name(name)?),
             },
-            cells: cells_in(items_at(value, CELLS)?)?,
+            cells: parse_cells(items_at(value, CELLS)?)?,
         })
     }
 }
@@ -98,13 +98,13 @@ impl Plain for Cell {
     ghost spells = { Gives cell_of };
 
     /// Returns the cell that a JSON value spells; none if it spells none.
-    fn in_value(value: &Value) -> Option<Cell> {
+    fn parse_value(value: &Value) -> Option<Cell> {
         let items = value.as_array()?;
         match items.as_slice() {
             [safe, idx, val] => Some(Cell {
                 safe: safe.as_bool()?,
                 idx: idx.as_u64()?,
-                val: val_in(val)?,
+                val: parse_val(val)?,
             }),
             _ => None,
         }
@@ -123,7 +123,7 @@ impl Written for Cell {
 
 /// Returns the `R` cells that the values of a list spell; none if a value spells no cell, or if
 /// there are not `R` values.
-fn cells_in<const R: usize>(list: &Vec<Value>) -> Option<[Cell; R]>
+fn parse_cells<const R: usize>(list: &Vec<Value>) -> Option<[Cell; R]>
     ensures some { IfSome result (SpellEach (Gives cell_of) (items_view list.now.items)) }
     ensures length { IfSome result (λ cells. length cells ≡ R) }
     ensures none { IfNone result ((cells : List Cell) → length cells ≡ R
@@ -134,7 +134,7 @@ fn cells_in<const R: usize>(list: &Vec<Value>) -> Option<[Cell; R]>
     }
     let mut cells = [Cell::fresh(0); R];
     for i in 0..R {
-        cells[i] = Cell::in_value(&list[i])?;
+        cells[i] = Cell::parse_value(&list[i])?;
     }
     Some(cells)
 }

@@ -33,12 +33,12 @@ pub trait Plain: Sized + Drop {
     /// Whether a JSON value spells a thing.
     ghost spells: { Data → Self → Type 0 };
 
-    /// What must hold when `in_value` is called; by default nothing.
+    /// What must hold when `parse_value` is called; by default nothing.
     ghost fits: { Type 0 } = { Unit {0} };
 
     /// Returns the thing of this kind that a JSON value spells; none if it spells none. `fits` must
     /// hold.
-    fn in_value(value: &Value) -> Option<Self>
+    fn parse_value(value: &Value) -> Option<Self>
         requires { fits }
         ensures some { IfSome result (spells (view value.now)) }
         ensures none { IfNone result ((thing : Self) → spells (view value.now) thing → ⊥) };
@@ -53,7 +53,7 @@ impl<T: Plain> Spelled for T {
     /// spells none, with `BadTrace`.
     #[tactic(auto, using(crate::proofs::SpellLemmas::read_or_bad))]
     fn from_value(_alloc: Global, value: &Value) -> Result<T, TraceFault> {
-        T::in_value(value).ok_or(TraceFault::BadTrace)
+        T::parse_value(value).ok_or(TraceFault::BadTrace)
     }
 }
 
@@ -74,7 +74,10 @@ pub trait Written: Spelled {
 /// # Errors
 ///
 /// `BadTrace` if there is no list, or if a value spells none; `NoMemory` if memory was refused.
-pub fn list_in<T: Spelled>(alloc: Global, list: Option<&Vec<Value>>) -> Result<Vec<T>, TraceFault>
+pub fn parse_list<T: Spelled>(
+    alloc: Global,
+    list: Option<&Vec<Value>>,
+) -> Result<Vec<T>, TraceFault>
     requires { T.fits }
     ensures { Reads elements (SpellEachOf T.spells
         (option_map (λ values. items_view values.now.items) list.entry)) result }

@@ -10,11 +10,11 @@ ghost use Rattle.rd_trace.specs.Spelled.{Reads, itself};
 ghost use Rattle.rd_trace.specs.Starts.{HasActorCount, SpellsParts, SpellsStart, IsStartValue, fresh_data, parts_object, parts_data};
 ghost use Rattle.rd_trace.specs.Texts.{IsStartAppended};
 
-use super::arrays::{array_parts_in, array_parts_json};
+use super::arrays::{array_parts_json, parse_array_parts};
 use super::faults::TraceFault;
 use super::members::{items_at, member_count, number_at};
-use super::names::{segment_name_in, segment_name_json};
-use super::spelled::{list_in, list_json};
+use super::names::{parse_segment_name, segment_name_json};
+use super::spelled::{list_json, parse_list};
 use rd_cell::limits::MOST_ACTORS;
 use rd_journal::Session;
 use rd_step::{Parts, World};
@@ -53,7 +53,7 @@ pub enum Start<const R: usize> {
 /// # Errors
 ///
 /// `BadTrace` if it spells none; `NoMemory` if memory was refused.
-pub fn start_in<const R: usize>(alloc: Global, value: &Value) -> Result<Start<R>, TraceFault>
+pub fn parse_start<const R: usize>(alloc: Global, value: &Value) -> Result<Start<R>, TraceFault>
     requires { R ≤ MOST_CELLS }
     ensures { Reads itself (SpellsStart (view value.now)) result }
 {
@@ -62,7 +62,7 @@ pub fn start_in<const R: usize>(alloc: Global, value: &Value) -> Result<Start<R>
             None => Err(TraceFault::BadTrace),
             Some(actors) => Ok(Start::Fresh(actors)),
         },
-        Some(PARTS_MEMBERS) => Ok(Start::Parts(parts_in(alloc, value)?)),
+        Some(PARTS_MEMBERS) => Ok(Start::Parts(parse_parts(alloc, value)?)),
         _ => Err(TraceFault::BadTrace),
     }
 }
@@ -82,23 +82,23 @@ pub fn actor_count_at(value: &Value, key: &str) -> Option<u8>
 
 /// Returns the parts that a JSON object of five members spells. `R` must be at most 64. Fails with
 /// `BadTrace` if it spells none, and with `NoMemory` if memory is refused.
-fn parts_in<const R: usize>(alloc: Global, value: &Value) -> Result<Parts<R>, TraceFault>
+fn parse_parts<const R: usize>(alloc: Global, value: &Value) -> Result<Parts<R>, TraceFault>
     requires small { R ≤ MOST_CELLS }
     requires members { member_count (view value.now) ≡ Some 5 }
     ensures { Reads itself (SpellsParts (view value.now)) result }
 {
-    let Some(qhead) = value.get(QHEAD).and_then(segment_name_in) else {
+    let Some(qhead) = value.get(QHEAD).and_then(parse_segment_name) else {
         return Err(TraceFault::BadTrace);
     };
-    let Some(qtail) = value.get(QTAIL).and_then(segment_name_in) else {
+    let Some(qtail) = value.get(QTAIL).and_then(parse_segment_name) else {
         return Err(TraceFault::BadTrace);
     };
-    let Some(array) = value.get(ARRAY).and_then(array_parts_in) else {
+    let Some(array) = value.get(ARRAY).and_then(parse_array_parts) else {
         return Err(TraceFault::BadTrace);
     };
     Ok(Parts {
-        actors: list_in(alloc, items_at(value, ACTORS))?,
-        segments: list_in(alloc, items_at(value, SEGMENTS))?,
+        actors: parse_list(alloc, items_at(value, ACTORS))?,
+        segments: parse_list(alloc, items_at(value, SEGMENTS))?,
         qhead,
         qtail,
         array,

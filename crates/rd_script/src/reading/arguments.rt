@@ -10,7 +10,7 @@ ghost use Rattle.rd_script.specs.Grammar.{IsSegmentInRange};
 ghost use Rattle.rd_script.specs.Texts.{yes_or_no};
 ghost use Rattle.rd_script.specs.Reading.{IsFaultOfNames, ReadsName};
 
-use super::numbers::{segment_name_in, u8_in, u64_in};
+use super::numbers::{parse_segment_name, parse_u8, parse_u64};
 use super::words::is_word;
 use crate::faults::LineFault;
 use rd_cell::SegName;
@@ -35,7 +35,7 @@ pub fn only_u8(words: &[&[u8]]) -> Option<u8>
     let [number] = words else {
         return None;
     };
-    u8_in(number)
+    parse_u8(number)
 }
 
 /// Returns the number from 0 to 2^64 - 1 that the only word spells. `None` if there isn't exactly
@@ -48,7 +48,7 @@ pub fn only_u64(words: &[&[u8]]) -> Option<u64>
     let [number] = words else {
         return None;
     };
-    u64_in(number)
+    parse_u64(number)
 }
 
 /// Returns the segment's name that the only word spells. `None` if there isn't exactly one word, or
@@ -62,7 +62,7 @@ pub fn only_segment_name(words: &[&[u8]]) -> Option<SegName>
     let [segment] = words else {
         return None;
     };
-    segment_name_in(segment)
+    parse_segment_name(segment)
 }
 
 /// Returns the segment's name and the index, from 0 to 255, that two words spell. `None` if there
@@ -76,7 +76,7 @@ pub fn segment_name_and_u8(words: &[&[u8]]) -> Option<(SegName, u8)>
     let [segment, index] = words else {
         return None;
     };
-    Some((segment_name_in(segment)?, u8_in(index)?))
+    Some((parse_segment_name(segment)?, parse_u8(index)?))
 }
 
 /// Returns the actor, from 0 to 255, and the value, from 0 to 2^64 - 1, that two words spell.
@@ -90,7 +90,7 @@ pub fn actor_and_value(words: &[&[u8]]) -> Option<(u8, u64)>
     let [actor, value] = words else {
         return None;
     };
-    Some((u8_in(actor)?, u64_in(value)?))
+    Some((parse_u8(actor)?, parse_u64(value)?))
 }
 
 /// Returns the actor, from 0 to 255, and the choice (`yes` or `no`) that two words spell. `None` if
@@ -104,11 +104,11 @@ pub fn actor_and_choice(words: &[&[u8]]) -> Option<(u8, bool)>
     let [actor, choice] = words else {
         return None;
     };
-    Some((u8_in(actor)?, choice_in(choice)?))
+    Some((parse_u8(actor)?, parse_choice(choice)?))
 }
 
 /// Returns the choice that a word spells, or `None` if it is neither `yes` nor `no`.
-fn choice_in(word: &[u8]) -> Option<bool>
+fn parse_choice(word: &[u8]) -> Option<bool>
     ensures some { IfSome result (λ choice. word.now ≡ yes_or_no choice) }
     ensures none { IfNone result ((choice : Bool) → word.now ≢ yes_or_no choice) }
 {
@@ -135,7 +135,7 @@ pub fn only_name(words: &[&[u8]]) -> Result<MarkName, LineFault>
     let [name] = words else {
         return Err(LineFault::BadLine);
     };
-    name_in(name)
+    parse_name(name)
 }
 
 /// Returns the bookmarks' names that two words are.
@@ -157,7 +157,7 @@ pub fn two_names(words: &[&[u8]]) -> Result<(MarkName, MarkName), LineFault>
     if !is_word(one) || !is_word(other) {
         return Err(LineFault::BadLine);
     }
-    Ok((name_in(one)?, name_in(other)?))
+    Ok((parse_name(one)?, parse_name(other)?))
 }
 
 /// Returns the bookmark's name that these bytes are.
@@ -165,7 +165,7 @@ pub fn two_names(words: &[&[u8]]) -> Result<(MarkName, MarkName), LineFault>
 /// # Errors
 ///
 /// In this order: `BadLine` if the bytes are no word; `BadName` if they are no bookmark's name.
-fn name_in(word: &[u8]) -> Result<MarkName, LineFault>
+fn parse_name(word: &[u8]) -> Result<MarkName, LineFault>
     ensures { ReadsName word.now result }
 {
     if !is_word(word) {

@@ -9,7 +9,7 @@ ghost use Rattle.rd_script.specs.Reading.{ReadsCommand, ReadsCommandWithoutName}
 use super::arguments::{
     actor_and_choice, actor_and_value, only_name, only_u8, only_u64, two_names, without_arguments,
 };
-use super::places::place_in;
+use super::places::parse_place;
 use crate::faults::LineFault;
 use rd_marks::{Command, Search};
 
@@ -204,8 +204,8 @@ impl Keyword {
             Keyword::Marks => without_arguments(words, Command::Marks)?,
             Keyword::MarkAt => Command::MarkAt(only_u64(words)?),
             Keyword::Origin => Command::Origin(only_u64(words)?),
-            Keyword::Writer => Command::Writer(place_in(words)?),
-            Keyword::Show => Command::Show(place_in(words)?),
+            Keyword::Writer => Command::Writer(parse_place(words)?),
+            Keyword::Show => Command::Show(parse_place(words)?),
             Keyword::Actor => Command::Actor(only_u8(words)?),
             Keyword::Step => Command::Step(only_u64(words)?),
             Keyword::Len => without_arguments(words, Command::Len)?,

@@ -15,11 +15,11 @@ use super::words::parts_of;
 use rd_cell::SegName;
 
 /// Returns the number from 0 to 2^64 - 1 that a word spells, or `None` if it spells none.
-pub fn u64_in(word: &[u8]) -> Option<u64>
+pub fn parse_u64(word: &[u8]) -> Option<u64>
     ensures spelled { IfSome result (λ n. word.now ≡ decimal n) }
     ensures unspelled { IfNone result ((n : ℕ) → n < 2 ^ 64 → word.now ≢ decimal n) }
 {
-    if let Some(number) = digit_in(word) {
+    if let Some(number) = parse_digit(word) {
         return Some(number);
     }
     if has_plus_or_leading_zero(word) {
@@ -33,7 +33,7 @@ pub fn u64_in(word: &[u8]) -> Option<u64>
 
 /// Returns the number that a word of a single digit spells, or `None` for any other word.
 #[tactic(auto, using(crate::proofs::NumeralLemmas::digit_spelled))]
-fn digit_in(word: &[u8]) -> Option<u64>
+fn parse_digit(word: &[u8]) -> Option<u64>
     ensures spelled { IfSome result (λ n. word.now ≡ decimal n) }
 {
     match word {
@@ -58,11 +58,11 @@ fn has_plus_or_leading_zero(word: &[u8]) -> bool
 
 /// Returns the number from 0 to 255 that a word spells, or `None` if it spells none.
 #[tactic(auto, using(std::proofs::lemmas::Fmt::decimal_injective))]
-pub fn u8_in(word: &[u8]) -> Option<u8>
+pub fn parse_u8(word: &[u8]) -> Option<u8>
     ensures spelled { IfSome result (λ n. word.now ≡ decimal n) }
     ensures unspelled { IfNone result ((n : ℕ) → n < 256 → word.now ≢ decimal n) }
 {
-    let number = u64_in(word)?;
+    let number = parse_u64(word)?;
     if number < 256 {
         Some(number as u8)
     } else {
@@ -73,18 +73,18 @@ pub fn u8_in(word: &[u8]) -> Option<u8>
 /// Returns the segment's name that a word spells: its maker, from 0 to 255, a full stop, and its
 /// number, from 0 to 2^32 - 1. `None` if the word spells none.
 #[tactic(auto, using(crate::proofs::NumeralLemmas::name_from_parts, crate::proofs::NumeralLemmas::no_name_from_parts, crate::proofs::NumeralLemmas::no_name_of_many))]
-pub fn segment_name_in(word: &[u8]) -> Option<SegName>
+pub fn parse_segment_name(word: &[u8]) -> Option<SegName>
     ensures spelled { IfSome result (λ s. word.now ≡ segment_name_words s) }
     ensures unspelled { IfNone result ((s : Segment) → IsSegmentInRange s
         → word.now ≢ segment_name_words s) }
 {
     let parts = parts_of(word, b'.')?;
-    segment_name_from(parts.as_slice())
+    parse_segment_name_parts(parts.as_slice())
 }
 
 /// Returns the segment's name whose maker, from 0 to 255, and number, from 0 to 2^32 - 1, two parts
 /// spell. `None` if there aren't exactly two parts, or if they spell no such numbers.
-fn segment_name_from(parts: &[&[u8]]) -> Option<SegName>
+fn parse_segment_name_parts(parts: &[&[u8]]) -> Option<SegName>
     ensures spelled { IfSome result (λ s. map (λ part. part.now) parts.now
         ≡ decimal s.maker ∷ decimal s.n ∷ []) }
     ensures unspelled { IfNone result ((s : Segment) → IsSegmentInRange s
@@ -94,18 +94,18 @@ fn segment_name_from(parts: &[&[u8]]) -> Option<SegName>
         return None;
     };
     Some(SegName {
-        maker: u8_in(maker)?,
-        n: u32_in(n)?,
+        maker: parse_u8(maker)?,
+        n: parse_u32(n)?,
     })
 }
 
 /// Returns the number from 0 to 2^32 - 1 that a word spells, or `None` if it spells none.
 #[tactic(auto, using(std::proofs::lemmas::Fmt::decimal_injective))]
-fn u32_in(word: &[u8]) -> Option<u32>
+fn parse_u32(word: &[u8]) -> Option<u32>
     ensures spelled { IfSome result (λ n. word.now ≡ decimal n) }
     ensures unspelled { IfNone result ((n : ℕ) → n < 2 ^ 32 → word.now ≢ decimal n) }
 {
-    let number = u64_in(word)?;
+    let number = parse_u64(word)?;
     if number < 1 << 32 {
         Some(number as u32)
     } else {

@@ -120,7 +120,7 @@ impl PlaceKind {
 }
 
 /// Returns the place that these words spell, its kind first, or `None` if they spell none.
-pub fn place_in(words: &[&[u8]]) -> Option<Place>
+pub fn parse_place(words: &[&[u8]]) -> Option<Place>
     ensures { ReadsPlace (map (λ word. word.now) words.now) result }
 {
     let [kind, rest @ ..] = words else {

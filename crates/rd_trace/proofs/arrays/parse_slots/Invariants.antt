@@ -1,5 +1,5 @@
 use Rattle.rd_trace.proofs.ArrayLemmas.{AreReadTo}
-use Rattle.rd_trace.proofs.arrays.slots_in.Given as goal
+use Rattle.rd_trace.proofs.arrays.parse_slots.Given as goal
 
 -- the slots that the values before this one spell
 abbrev pub invariant-loop-value : goal.invariant-loop-value

@@ -1,7 +1,7 @@
 use Rattle.rd_trace.proofs.Prelude.{arith}
 use Rattle.rd_trace.proofs.SpellLemmas.{spelled_length, spell_each-none}
 use Rattle.rd_trace.proofs.SegmentLemmas.{one_more_cell, all_cells}
-use Rattle.rd_trace.proofs.segments.cells_in.Goals as goal
+use Rattle.rd_trace.proofs.segments.parse_cells.Goals as goal
 
 pub returns-then-len-clause-none : goal.returns-then-len-clause-none
 returns-then-len-clause-none g c = grind (arith, spelled_length)

@@ -1,6 +1,6 @@
 use Rattle.std.proofs.Common.{◌≡◌, ◌≤◌, length, vec_len, vec_capacity}
 use Rattle.rd_trace.proofs.MarkLemmas.{AreRead}
-use Rattle.rd_trace.proofs.bookmarks.marks_in.Given as goal
+use Rattle.rd_trace.proofs.bookmarks.parse_marks.Given as goal
 
 -- the bookmarks that the values before this one spell
 abbrev pub invariant-loop-value : goal.invariant-loop-value

@@ -1,6 +1,6 @@
 use Rattle.rd_script.proofs.Prelude.{arith, decimal, IsAscii-decimal, IsUtf8-from_ascii}
 use Rattle.rd_script.proofs.NumeralLemmas.{begins_as_number, read_as_spelled, none_spelled}
-use Rattle.rd_script.proofs.reading.numbers.u64_in.Goals as goal
+use Rattle.rd_script.proofs.reading.numbers.parse_u64.Goals as goal
 
 pub returns-then-has_plus_or_leading_zero-clause-unspelled : goal.returns-then-has_plus_or_leading_zero-clause-unspelled
 returns-then-has_plus_or_leading_zero-clause-unspelled c n small e = begins_as_number n small (rw e at c.has_plus_or_leading_zero.ensures.yes c.if-has_plus_or_leading_zero.true)

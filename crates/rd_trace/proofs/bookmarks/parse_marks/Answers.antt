@@ -4,8 +4,8 @@ use Rattle.std.proofs.lemmas.Iterator.Search.{any_from_yields_List}
 use Rattle.rd_trace.proofs.Prelude.{common_steps, list_any, view, items_view, mark_name_eq, SpellsMark, SpellMarksOfBook, saved_mark, saved_marks, SavedMark, ◌≡◌, ◌+◌, List, length, sym, ap, ◌∙◌, subst, arith, Value}
 use Rattle.rd_trace.proofs.SpellLemmas.{part_passed_up}
 use Rattle.rd_trace.proofs.MarkLemmas.{AreRead, none_read, mark_here, name_taken, one_more_mark, all_read, too_many}
-use Rattle.rd_trace.proofs.bookmarks.marks_in.Goals.{After-any}
-use Rattle.rd_trace.proofs.bookmarks.marks_in.Goals as goal
+use Rattle.rd_trace.proofs.bookmarks.parse_marks.Goals.{After-any}
+use Rattle.rd_trace.proofs.bookmarks.parse_marks.Goals as goal
 
 pub returns-then-count-gt-MOST_MARKS : goal.returns-then-count-gt-MOST_MARKS
 returns-then-count-gt-MOST_MARKS c = too_many c.args.list.now.items (omega arith)

@@ -1,5 +1,5 @@
 use Rattle.rd_trace.proofs.Prelude.{◌≡◌, ◌≤◌, take, length, vec_len, vec_capacity, items_view, SpellEach}
-use Rattle.rd_trace.proofs.spelled.list_in.Given as goal
+use Rattle.rd_trace.proofs.spelled.parse_list.Given as goal
 
 -- the values before this one spell the things so far
 abbrev pub invariant-loop-value : goal.invariant-loop-value

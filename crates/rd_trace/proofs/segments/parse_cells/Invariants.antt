@@ -1,5 +1,5 @@
 use Rattle.rd_trace.proofs.SegmentLemmas.{AreRead}
-use Rattle.rd_trace.proofs.segments.cells_in.Given as goal
+use Rattle.rd_trace.proofs.segments.parse_cells.Given as goal
 
 -- the cells so far are those of the values before this one
 abbrev pub invariant-loop-i : goal.invariant-loop-i
