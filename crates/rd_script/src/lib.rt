@@ -26,7 +26,7 @@ pub use conversation::{Answerer, converse};
 pub use devices::sinks::{Sink, WriteSink, write_all};
 pub use devices::sources::{ReadSource, Source};
 pub use faults::{LineFault, ScriptFault};
-pub use reading::commands::command_in;
+pub use reading::commands::parse_command;
 pub use reading::keywords::FORMS;
 pub use reading::lines::Line;
 pub use reading::whole_texts::{ParsedLine, lines, spelled_commands};

@@ -23,7 +23,7 @@ pub const MOST_LINE_BYTES: usize = 256;
 /// In this order: `LineTooLong` if the line has more than 256 bytes; `BadLine` if it doesn't follow
 /// the grammar, where a bookmark's name may be any word; `BadName` if such a word is not one that a
 /// bookmark can have as its name (`MarkName`).
-pub fn command_in(line: &[u8]) -> Result<Command, LineFault>
+pub fn parse_command(line: &[u8]) -> Result<Command, LineFault>
     ensures says { Says line.now result }
     ensures one { (c : SomeCommand) → length line.now ≤ most_line_bytes → IsInRange c
         → line.now ≡ spelling c → IsOkAnd result (λ d. IsSameCommand c d) }

@@ -157,7 +157,7 @@ impl Keyword {
     }
 
     /// Returns the command that the keyword and the words after it spell. Fails with `BadLine` or
-    /// `BadName`, as `command_in` does.
+    /// `BadName`, as `parse_command` does.
     #[tactic(auto, using(crate::proofs::NameReadLemmas::none_named))]
     pub fn command(self, words: &[&[u8]]) -> Result<Command, LineFault>
         ensures { ReadsCommand self (map (λ word. word.now) words.now) result }

@@ -7,7 +7,7 @@ ghost use Rattle.std.specs.Prelude.{◌≡◌, ℕ, List, [], ◌∷◌, ◌++�
 ghost use Rattle.rd_script.specs.Spelling.{Says};
 ghost use Rattle.rd_script.specs.Lines.{ReadsNext, Holds};
 
-use super::commands::{MOST_LINE_BYTES, command_in};
+use super::commands::{MOST_LINE_BYTES, parse_command};
 use crate::devices::sources::Source;
 use crate::faults::{LineFault, ScriptFault};
 use arrayvec::ArrayVec;
@@ -93,13 +93,13 @@ impl Line {
     ///
     /// # Errors
     ///
-    /// `LineTooLong` if the line has more than 256 bytes; otherwise those of `command_in`.
+    /// `LineTooLong` if the line has more than 256 bytes; otherwise those of `parse_command`.
     pub fn command(&self) -> Result<Command, LineFault>
         ensures { (text : List ℕ) → Holds self.now text → Says text result }
     {
         if self.is_too_long {
             return Err(LineFault::LineTooLong);
         }
-        command_in(self.kept.as_slice())
+        parse_command(self.kept.as_slice())
     }
 }

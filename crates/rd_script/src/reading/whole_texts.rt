@@ -6,7 +6,7 @@ ghost use Rattle.rd_script.specs.Answers.{commands_of};
 ghost use Rattle.rd_script.specs.Lines.{lines_of};
 ghost use Rattle.rd_script.specs.Spelling.{Says};
 
-use super::commands::command_in;
+use super::commands::parse_command;
 use crate::faults::LineFault;
 use rd_cell::Refusal;
 use rd_marks::Command;
@@ -30,7 +30,7 @@ pub fn lines(alloc: Global, text: &[u8]) -> Result<Vec<ParsedLine>, Refusal>
     }
     let mut said = Vec::new(alloc);
     for line in without_last_feed(text).split(|byte| *byte == b'\n') {
-        if said.push(command_in(line)).is_err() {
+        if said.push(parse_command(line)).is_err() {
             return Err(Refusal::NoMemory);
         }
     }

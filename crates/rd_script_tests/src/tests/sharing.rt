@@ -2,13 +2,13 @@
 
 use super::runs::fresh;
 use rd_marks::Book;
-use rd_script::command_in;
+use rd_script::parse_command;
 use std::alloc::Global;
 use std::process::Abort;
 
 /// Has a book obey each line, none of which is refused, and counts the nodes after each.
 fn line_keeps(rt: &impl Abort, book: &mut Book<4>, line: &str, nodes: u64) {
-    let Ok(command) = command_in(line.as_bytes()) else {
+    let Ok(command) = parse_command(line.as_bytes()) else {
         panic!(rt; "line {line}")
     };
     assert!(rt;

@@ -5,10 +5,10 @@ use Rattle.rd_script.proofs.reading.whole_texts.lines.Goals as goal
 
 pub loop-line-preserved : goal.loop-line-preserved
 loop-line-preserved c =
-    let pushed : c.push.new.self.items ≡ c.loop-line.said.items ++ c.command_in.result ∷ [] = search rules in
+    let pushed : c.push.new.self.items ≡ c.loop-line.said.items ++ c.parse_command.result ∷ [] = search rules in
     let given : map (λ (line : Bor (List ℕ)). line.now) (c.loop-line.yielded ++ c.in-Some.line ∷ []) ≡ map (λ (line : Bor (List ℕ)). line.now) c.loop-line.yielded ++ c.in-Some.line.now ∷ []
     = map-append _ c.loop-line.yielded (c.in-Some.line ∷ []) in
-    let more = all_zipped_more Says _ c.loop-line.said.items c.in-Some.line.now c.command_in.result c.loop-line.invariant c.command_in.ensures.says in
+    let more = all_zipped_more Says _ c.loop-line.said.items c.in-Some.line.now c.parse_command.result c.loop-line.invariant c.parse_command.ensures.says in
     rw (pushed, given) more
 
 pub returns-clause-ok : goal.returns-clause-ok

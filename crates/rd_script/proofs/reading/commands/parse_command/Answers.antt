@@ -1,7 +1,7 @@
 use Rattle.rd_script.proofs.Prelude.{common_steps, take_rest, arith}
 use Rattle.rd_script.proofs.PartLemmas.{first_and_others}
 use Rattle.rd_script.proofs.SayLemmas.{too_many_words, says_words, said_as_spelled}
-use Rattle.rd_script.proofs.reading.commands.command_in.Goals as goal
+use Rattle.rd_script.proofs.reading.commands.parse_command.Goals as goal
 
 pub returns-in_default-clause-says : goal.returns-in_default-clause-says
 returns-in_default-clause-says c = too_many_words c.args.line.now c.if-line-gt-MOST_LINE_BYTES.false c.in_default.ensures.none
