@@ -1,3 +1,5 @@
+-- So far whole lines were read and answered, and their answers were written (`IsGoingOn`). Each
+-- way to end adds the last line, or a part of one, and each turn adds one whole line.
 use Rattle.rd_script.proofs.Prelude.{[], ◌∷◌, arith, inl, inr, Converses}
 use Rattle.rd_script.proofs.ResultLemmas.{passed_up}
 use Rattle.rd_script.proofs.ConversationLemmas.{starts, came_to_end, stopped_at_read, stopped_endless, goes_on, came_to_last, stopped_at_write, line_more, last_line_more, whole_more, ended-whole}

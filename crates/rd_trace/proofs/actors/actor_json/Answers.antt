@@ -1,3 +1,4 @@
+-- Each `put` adds one member to those before it, with the value of one part of the actor.
 use Rattle.rd_trace.proofs.Prelude.{rules, ◌≡◌, codes, ap, ap₂, ◌∙◌, arith, object, put, view, members_view, view-Object, val_data}
 use Rattle.rd_trace.proofs.ActorLemmas.{actor_spelled}
 use Rattle.rd_trace.proofs.actors.actor_json.Goals as goal

@@ -1,3 +1,6 @@
+-- The values so far spell the bookmarks that were read, whose names differ (`AreRead`). If a
+-- value spells no bookmark, or one with a name that is taken, the whole list spells no bookmarks
+-- of a book.
 use Rattle.std.proofs.Common.{rules, tests}
 use Rattle.std.proofs.lemmas.Iterator.{YieldsList-from_slice}
 use Rattle.std.proofs.lemmas.Iterator.Search.{any_from_yields_List}

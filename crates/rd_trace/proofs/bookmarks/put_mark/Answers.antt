@@ -1,3 +1,5 @@
+-- `mark_events` returned the events of the book's bookmark. The five parts that were appended
+-- are the text of a bookmark with them and this name (`mark_appended`).
 use Rattle.rd_trace.proofs.Prelude.{List, codes, Option, Ok, IfSome, Vec, string_bytes, ap, ◌∙◌, ◌++◌, subst, arith, Event, book_state, mark_events, AnswersMarkEvents, Gives, event_of, event_data, AreAppended, IsMarkAppended, Global}
 use Rattle.rd_trace.proofs.MarkLemmas.{mark_appended}
 use Rattle.rd_trace.proofs.TextLemmas.{last_appended}

@@ -1,3 +1,5 @@
+-- `mark_at` can't fail here, since its number is from 1 to the count of bookmarks. Each turn
+-- appends the text of one more.
 use Rattle.rd_trace.proofs.Prelude.{add-one, length, ◌++◌, string_bytes, refl, sym, ap, ◌∙◌, arith, take_all, book_state}
 use Rattle.rd_trace.proofs.SpellLemmas.{some_got}
 use Rattle.rd_trace.proofs.MarkLemmas.{next_appended}

@@ -1,3 +1,5 @@
+-- An event's value is a list of its word, its actor and perhaps a number or a choice. It is read
+-- back, since each of these is.
 use Rattle.std.proofs.Common.{codes, refl, arith}
 use Rattle.rd_actor.specs.declared.actors.Act.TheVariants as act
 use Rattle.rd_trace.proofs.TextLemmas.{event_array_back, event_pair_back, event_triple_back}

@@ -1,3 +1,6 @@
+-- The session that was read is a trace that the value spells. Each call does one part of
+-- replaying this trace: a call's fault is the fault of replaying it, and after the last call the
+-- book has the loaded state.
 use Rattle.rd_trace.proofs.Prelude.{rules, ◌≡◌, ◌≤◌, ◌++◌, map, length, length-map, Ok, Err, ap, sym, subst, subst₂, ◌∙◌, arith, view, State, back, book_state, saved_mark, saved_trace, loaded_state, MOST_MARKS, HaveDifferentNames, IsFaultOfEvents, SetsMarks, Book}
 use Rattle.rd_trace.proofs.LoadLemmas.{names_differ, few_marks, loads_value, not_loaded}
 use Rattle.rd_trace.proofs.ReplayLemmas.{MakesLive, from_old, live_refused, enough_live, made_live, no_world, no_marks, no_steps, plays}

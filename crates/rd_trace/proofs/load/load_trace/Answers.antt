@@ -1,3 +1,6 @@
+-- The value has this number of cells at the key `ring`, so what `book_of` returns is the result
+-- of loading the text. It gives back the book of a text that was written, since a text is one
+-- trace at most.
 use Rattle.rd_trace.proofs.Prelude.{◌≡◌, inl, inr, codes, Some, refl, view, number_at}
 use Rattle.rd_script.specs.declared.any_book.AnyBook.TheVariants.{Two, Four, Eight}
 use Rattle.rd_trace.proofs.LoadLemmas.{loads_any}

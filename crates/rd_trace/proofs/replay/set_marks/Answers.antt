@@ -1,3 +1,6 @@
+-- The bookmarks before this one were set, and none of their events is refused (`HasSet`). So an
+-- event that is refused here is the first of all. The book has other names, and fewer than it
+-- may have, so only memory can keep it from setting this one.
 use Rattle.rd_trace.proofs.Prelude.{◌≡◌, ◌⊎◌, Ok, Err, IsOk, refl, ap, sym, subst, subst₂, ◌∙◌, arith, book_state, get_or_default, mark, SavedMark, IsFaultOfEvents, GoesTo, TraceStep}
 use Rattle.rd_trace.proofs.ReplayLemmas.{one_set, can_mark, mark_refused, all_set}
 use Rattle.rd_trace.proofs.replay.set_marks.Goals as goal

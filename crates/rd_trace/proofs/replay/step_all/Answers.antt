@@ -1,3 +1,6 @@
+-- The events so far happened after the live ones, so none of them is refused. An event that is
+-- refused now is the first one of the whole list, and its number is one more than there are live
+-- events.
 use Rattle.rd_trace.proofs.Prelude.{◌≡◌, ◌+◌, ◌++◌, List, Ok, length, ap, subst, take_all, Event, GoesTo, ◌∙◌, arith, get_or_default, State, BookState, book_state}
 use Rattle.rd_trace.proofs.ReplayLemmas.{none_stepped, one_stepped, one_refused, happened, not_happened}
 use Rattle.rd_trace.proofs.replay.step_all.Goals as goal

@@ -1,3 +1,5 @@
+-- A trace of version 2 has a start, bookmarks and two lists of events, so a value that lacks one
+-- of them spells no trace; nor does one in which one of them spells nothing.
 use Rattle.rd_trace.proofs.Prelude.{◌∙◌, none-some, view, Gives, SpellEachOf, elements, event_of, saved_trace, IsVersion2}
 use Rattle.rd_trace.proofs.SpellLemmas.{part_passed_up}
 use Rattle.rd_trace.proofs.saved.parse_version_2_session.Goals as goal

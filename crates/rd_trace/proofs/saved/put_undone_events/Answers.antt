@@ -1,3 +1,5 @@
+-- `undone_event` isn't none here, since its number is from 1 to the count of undone events. Each
+-- turn appends the text of one more.
 use Rattle.rd_trace.proofs.Prelude.{string_bytes, sym, ◌∙◌, arith, take_all, add-one, state, Gives, event_of, event_data}
 use Rattle.rd_trace.proofs.SpellLemmas.{take_got, some_got}
 use Rattle.rd_trace.proofs.TextLemmas.{one_more_appended}

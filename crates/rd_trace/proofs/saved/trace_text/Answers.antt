@@ -1,3 +1,5 @@
+-- The parts were appended one after another, and together they are the text of the book's JSON
+-- value (`book_text`). The value of each part is read back, so the book's value is.
 use Rattle.rd_trace.proofs.Prelude.{◌≡◌, ◌∙◌, items_by, event_data, mark_data, string_bytes, sym, ◌<◌, ◌^◌, subst, arith, state, State, book_state, BookState, KeepsRules, IsTextOf, opened_ring}
 use Rattle.rd_trace.proofs.TextLemmas.{whole_text, book_text}
 use Rattle.rd_trace.proofs.WriteLemmas.{text_of_book}

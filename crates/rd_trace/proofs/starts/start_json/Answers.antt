@@ -1,3 +1,5 @@
+-- A fresh world has one number of actors, which its start has. The start of any other world has
+-- its parts, which have no flaw.
 use Rattle.rd_trace.proofs.Prelude.{◌≡◌, ap, ◌∙◌, arith, both_ways, view, IsStartValue, fresh_data, parts_data, Value, IfOk-weaker, model}
 use Rattle.rd_step.proofs.Starts.{one_count}
 use Rattle.rd_trace.proofs.StartLemmas.{both_ok, fresh_start, other_start}

@@ -1,3 +1,6 @@
+-- The line is its words with spaces between them. So it spells what its keyword and the words
+-- after it read as (`says_words`). A line that spells a command in range is read as this command
+-- (`said_as_spelled`).
 use Rattle.rd_script.proofs.Prelude.{common_steps, take_rest, arith}
 use Rattle.rd_script.proofs.PartLemmas.{first_and_others}
 use Rattle.rd_script.proofs.SayLemmas.{too_many_words, says_words, said_as_spelled}

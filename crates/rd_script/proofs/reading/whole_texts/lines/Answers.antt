@@ -1,3 +1,5 @@
+-- `split` yields the lines one after another, and each turn adds what one more line says. When
+-- it yields no more, all lines were read.
 use Rattle.rd_script.proofs.Prelude.{AllZip, rules, tests, ◌≡◌, ◌==◌, List, [], ◌∷◌, ◌++◌, map, refl, ◌∙◌, subst, Bor, ℕ, map-append, YieldsList-from_slice_split, Says}
 use Rattle.rd_script.proofs.PartLemmas.{all_parts}
 use Rattle.std.proofs.lemmas.Slice.Zip.{all_zipped_more}

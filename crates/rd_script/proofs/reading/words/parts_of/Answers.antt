@@ -1,3 +1,5 @@
+-- `split` yields the parts one after another. When it yields no more, all were kept; if one
+-- comes when four are kept, there are more than four.
 use Rattle.rd_script.proofs.Prelude.{rules, tests, map, length, ap, ◌∙◌, ◌==◌, ◌≡◌, refl, arith, YieldsList-from_slice_split}
 use Rattle.rd_script.proofs.PartLemmas.{more_parts, all_parts}
 use Rattle.rd_script.proofs.reading.words.parts_of.Goals as goal

@@ -1,3 +1,5 @@
+-- The words that the arm of a kind reads are the arguments of this kind's places: if it reads
+-- none, no place of this kind has these arguments.
 use Rattle.rd_script.proofs.Prelude.{arith, common_steps}
 use Rattle.rd_script.proofs.reading.places.PlaceKind.place.Goals as goal
 
