@@ -8,8 +8,6 @@ use Rattle.rd_marks.specs.NameBytes.{is_mark_name}
 use Rattle.rd_marks.specs.Names.{bytes_of}
 use Rattle.rd_marks.specs.declared.commands.Command.{Command}
 use Rattle.rd_marks.specs.declared.commands.Command.TheVariants as command
-use Rattle.rd_marks.specs.declared.commands.Search.{Search}
-use Rattle.rd_marks.specs.declared.commands.Search.TheVariants as search
 use Rattle.rd_script.specs.declared.reading.keywords.Keyword.{Keyword}
 use Rattle.rd_script.specs.declared.reading.keywords.Keyword.TheVariants as keyword
 use Rattle.rd_script.specs.declared.reading.places.PlaceKind.{PlaceKind}
@@ -133,10 +131,6 @@ keyword_and_arguments (command.Show asked) = (keyword.Show, Kind (kind_of asked)
 keyword_and_arguments (command.Actor actor) = (keyword.Actor, Byte actor ∷ [])
 keyword_and_arguments (command.Step k) = (keyword.Step, Long k ∷ [])
 keyword_and_arguments command.Len = (keyword.Len, [])
-
--- the keyword of a search, with which its reply begins
-abbrev pub keyword_of_search : Search → Keyword
-keyword_of_search search.Writer = keyword.Writer
 
 -- the keyword of a command
 abbrev pub keyword_of : Command → Keyword

@@ -3,7 +3,7 @@
 
 ghost use Rattle.std.specs.Prelude.{◌≡◌, ◌≢◌, ◌≤◌, length, map, IfSome, IfNone};
 ghost use Rattle.rd_script.specs.declared.reading.keywords.Keyword.{Keyword as Word};
-ghost use Rattle.rd_script.specs.Grammar.{keyword_text, keyword_of_search};
+ghost use Rattle.rd_script.specs.Grammar.{keyword_text};
 ghost use Rattle.rd_script.specs.Reading.{ReadsCommand, ReadsCommandWithoutName};
 
 use super::arguments::{
@@ -11,7 +11,7 @@ use super::arguments::{
 };
 use super::places::parse_place;
 use crate::faults::LineFault;
-use rd_marks::{Command, Search};
+use rd_marks::Command;
 
 /// The end of a help text: the forms of lines in six rows, and where the manual is.
 pub const FORMS: &str = "Lines of a script:\n  \
@@ -115,17 +115,8 @@ impl Keyword {
         None
     }
 
-    /// Returns the keyword of a search, with which its reply begins.
-    pub fn of_search(search: Search) -> Keyword
-        ensures { result ≡ keyword_of_search search }
-    {
-        match search {
-            Search::Writer => Keyword::Writer,
-        }
-    }
-
     /// Returns the word that spells the keyword, of at most 7 bytes.
-    pub fn text(self) -> &'static [u8]
+    fn text(self) -> &'static [u8]
         ensures text { result.now ≡ keyword_text self }
         ensures len { length result.now ≤ 7 }
     {

@@ -10,9 +10,8 @@ use super::contents::put_content;
 use super::numbers::{put_number_or_hyphen, put_spaced_number, put_words_and_number, yes_or_no};
 use super::steps::{put_result, put_step};
 use super::texts::{Text, put};
-use crate::reading::keywords::Keyword;
 use rd_actor::OpReply;
-use rd_marks::{MarkName, Reply};
+use rd_marks::{MarkName, Reply, Search};
 use rd_origin::Origin;
 
 /// Appends to the text the words of a reply.
@@ -41,9 +40,7 @@ pub fn put_reply(text: &mut Text, reply: &Reply)
             put(text, yes_or_no(same));
         }
         Reply::Origin(origin) => put_origin(text, origin),
-        Reply::Found(search, step) => {
-            put_number_or_none(text, Keyword::of_search(search).text(), step);
-        }
+        Reply::Found(Search::Writer, step) => put_number_or_none(text, b"writer", step),
         Reply::Content(content) => {
             put(text, b"is ");
             put_content(text, content);
