@@ -7,6 +7,7 @@ ended is pending. Steps that were undone are no part of a run: the program is as
 import argparse
 import io
 import sys
+import tempfile
 from collections.abc import Iterable, Iterator
 from dataclasses import dataclass
 from pathlib import Path
@@ -16,7 +17,8 @@ from lcrq_tools.draw.figure import Session, script_name
 from lcrq_tools.drafts import is_draft
 from lcrq_tools.faults import Fault
 from lcrq_tools.places import found_program, required
-from lcrq_tools.port.port_log import Record, number_of, read_logs
+from lcrq_tools.port.port_log import Record, number_of
+from lcrq_tools.port.port_stream import read_logs
 from lcrq_tools.program import bytes_of, lines_of, standard_input
 from lcrq_tools.records import Actor, Event, Step
 
@@ -173,9 +175,11 @@ def calls_of_records(records: Iterable[Record]) -> Iterator[Call]:
 def calls_of_logs(names: list[str]) -> Found:
     """The calls of logs, which are merged by their stamps."""
     if "-" in names:  # it was read to see what it is
-        sys.stdin = io.TextIOWrapper(io.BytesIO(standard_input()), errors="replace")
+        sys.stdin = io.TextIOWrapper(tempfile.TemporaryFile())
+        sys.stdin.buffer.write(standard_input())
+        sys.stdin.buffer.seek(0)
     logs = read_logs(names)
-    named = ", ".join(f"{name} is {number}" for number, name in enumerate(logs.actors, 1))
+    named = ", ".join(logs.named)
     calls = sorted(calls_of_records(logs.records), key=lambda call: call.begin)
     name = ", ".join("a log" if name == "-" else Path(name).name for name in names)
     return Found(tuple(calls), name, f"the actors of the logs: {named}" if named else "")

@@ -13,7 +13,8 @@ from pathlib import Path
 from lcrq_tools import program
 from lcrq_tools.faults import status_of
 from lcrq_tools.port import conform
-from lcrq_tools.port.port_log import Record, read_logs
+from lcrq_tools.port.port_log import Record
+from lcrq_tools.port.port_stream import read_logs
 from lcrq_tools.program import TOP, lines_of, replies_to, script_of
 from lcrq_tools.start.starts import Start, Trace, segment_names
 

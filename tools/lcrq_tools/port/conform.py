@@ -48,7 +48,7 @@ from lcrq_tools.faults import FAULTS, Fault, Parser, say, text_of
 from lcrq_tools.port.port_allow import Allowed, read_allowed
 from lcrq_tools.port.port_compare import Comparison, Difference, Follow, Listed, never
 from lcrq_tools.port.port_ledger import first_of
-from lcrq_tools.port.port_log import Record, Unreadable
+from lcrq_tools.port.port_log import Record
 from lcrq_tools.port.port_orders import Found
 from lcrq_tools.port.port_replay import Replay
 from lcrq_tools.port.port_report import About, emptied
@@ -187,7 +187,7 @@ def compare_over(given: argparse.Namespace, folder: Path, source: Source, asks: 
     """Compares the records of logs over a world; returns the exit status."""
     source.put(source.some(1))
     if not source.put_back:
-        raise Unreadable("; ".join([f"{' '.join(given.logs)}: no record", *source.cuts]))
+        raise source.no_record()
     with contextlib.closing(Replay(given.program, folder, options_of(given))) as replay:
         source.actors.limit = len(replay.states)
         found = order_of(given, folder, source, allowed) if source.is_open else None

@@ -10,12 +10,11 @@ from collections import Counter
 from collections.abc import Iterator, Sequence
 from dataclasses import dataclass, replace
 
-from lcrq_tools import model
 from lcrq_tools.port.port_compare import Comparison, Difference, Follow
-from lcrq_tools.port.port_log import Unreadable, lines_of
+from lcrq_tools.port.port_log import Unreadable, label_names
 from lcrq_tools.port.port_report import said_of
 from lcrq_tools.port.port_side import Side
-from lcrq_tools.program import counted
+from lcrq_tools.program import bytes_of, counted
 from lcrq_tools.records import Actor, Step
 
 # What a report may say after `the port`.
@@ -98,11 +97,11 @@ def read_allowed(name: str | None) -> "Allowed":
     """The differences that a file names, if one is given."""
     if name is None:
         return Allowed()
-    labels, cuts = set(model.read(model.PAGE.read_text(encoding="utf-8"))[0]), list[str]()
-    rows = [*lines_of(name, cuts)]
-    if cuts:
-        raise Unreadable(cuts[0])
-    return Allowed([meant_of(where, text, labels) for where, text in rows])
+    *lines, rest = bytes_of(name).decode("utf-8", "replace").split("\n")
+    if rest:
+        raise Unreadable(f"{name}:{len(lines) + 1} has no line feed")
+    rows = ((f"{name}:{number}", text) for number, text in enumerate(map(str.strip, lines), 1))
+    return Allowed([meant_of(where, text, label_names()) for where, text in rows if text and text[0] != "#"])
 
 
 def meant_of(where: str, text: str, labels: set[str]) -> Meant:

@@ -1,5 +1,5 @@
 """Reads the log of a port's accesses for `conform.py`, in the form that docs/MANUAL.md has under PORTS: its
-records, merged by their stamps, and what they say in the program's words.
+records, and what they say in the program's words.
 
 A record is a line `STAMP ACTOR WHAT`: a call, a step with its label or its place, or a reply. Its stamp may be
 two, `BEFORE-AFTER`; the records are then in the order of the first ones.
@@ -8,16 +8,12 @@ Segments may have any names; `Names` learns which segment of the model each of t
 
 import contextlib
 import functools
-import io
 import re
-import sys
 from collections.abc import Collection, Iterator, Sequence
 from dataclasses import dataclass
-from pathlib import Path
 
 from lcrq_tools import model
 from lcrq_tools.faults import Fault
-from lcrq_tools.options import MOST_ACTORS
 from lcrq_tools.records import CALLS, NOTHING, PLACES, WORDS
 
 MOST_NUMBER = 2**64 - 1
@@ -72,15 +68,6 @@ class Record:
             return []
         step = [f"step {number}"] if self.kind == "step" else []
         return [self.line(), *step, f"actor {self.actor}"]
-
-
-@dataclass(frozen=True)
-class Logs:
-    """What all logs of a command line have."""
-
-    records: list[Record]  # in the order of their stamps
-    actors: list[str]  # the names of the actors, the first that of actor 1; none where they are 1 to 16 already
-    cuts: list[str]  # where a log is cut, and what that is
 
 
 @dataclass(frozen=True)
@@ -214,27 +201,6 @@ def record_of(where: str, text: str, labels: set[str]) -> Record:
     return record
 
 
-# ---- Logs ----------------------------------------------------------------------------------------
-
-
-def lines_of(name: str, cuts: list[str]) -> Iterator[tuple[str, str]]:
-    """The lines of a log, each with where it is; `-` is standard input. Adds where the log is cut. A line
-    without a line feed may be half a record, and is left out."""
-    where = "standard input" if name == "-" else name
-    file = sys.stdin.buffer if name == "-" else Path(name).open("rb")
-    with io.TextIOWrapper(file, encoding="utf-8", errors="replace") as log:
-        for number, line in enumerate(log, 1):
-            text = line.strip()
-            if not text or text.startswith("#"):
-                continue
-            if not line.endswith("\n"):
-                cuts.append(f"{where}:{number} has no line feed and is not compared")
-                return
-            if text.endswith(";"):
-                cuts.append(f"{where}:{number} ends behind a `;`")
-            yield f"{where}:{number}", text
-
-
 @contextlib.contextmanager
 def shown(where: str, text: str) -> Iterator[None]:
     """Says of what can't be read where it is, and shows it."""
@@ -243,40 +209,6 @@ def shown(where: str, text: str) -> Iterator[None]:
     except Unreadable as fault:
         more = "..." if len(text) > SHOWN_LETTERS else ""
         raise Unreadable(f"{where}: `{text[:SHOWN_LETTERS]}{more}`: {fault}") from fault
-
-
-def records_of(name: str, labels: set[str], cuts: list[str]) -> Iterator[Record]:
-    """The records of a log, in the order of the file. Adds where it is cut."""
-    for where, text in lines_of(name, cuts):
-        with shown(where, text):
-            yield record_of(where, text, labels)
-
-
-def number_actors(records: list[Record]) -> list[str]:
-    """Gives each record the model's number of its actor. Returns the names of the actors, the first
-    that of actor 1; none where the log has the numbers 1 to 16 already."""
-    numbers = {str(number): number for number in range(1, MOST_ACTORS + 1)}
-    names = [*dict.fromkeys(record.name for record in records)]
-    has_numbers = set(names) <= numbers.keys()
-    if not has_numbers:
-        if len(names) > MOST_ACTORS:
-            raise Unreadable(f"the logs have {len(names)} actors, and a world has {MOST_ACTORS} at most")
-        numbers = {name: number for number, name in enumerate(names, 1)}
-    for record in records:
-        record.actor = numbers[record.name]
-    return [] if has_numbers else names
-
-
-def read_logs(names: list[str]) -> Logs:
-    """What all logs have."""
-    if names.count("-") > 1:
-        raise Unreadable("standard input can be read once, and - is given twice")
-    cuts = list[str]()
-    records = [record for name in names for record in records_of(name, label_names(), cuts)]
-    if not records:
-        raise Unreadable("; ".join([f"{' '.join(names)}: no record", *cuts]))
-    records.sort(key=lambda record: record.stamp)
-    return Logs(records, number_actors(records), cuts)
 
 
 # ---- Names ---------------------------------------------------------------------------------------

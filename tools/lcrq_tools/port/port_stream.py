@@ -17,6 +17,7 @@ import select
 import stat
 import sys
 from collections.abc import Iterator, Sequence
+from dataclasses import dataclass
 from typing import IO
 
 from lcrq_tools.faults import Fault
@@ -299,6 +300,10 @@ class Source:
         """Goes back by so many of the records that were taken last."""
         self.put(self.taken[len(self.taken) - count :])
 
+    def no_record(self) -> Unreadable:
+        """That the logs have none."""
+        return Unreadable("; ".join([f"{' '.join(self.names)}: no record", *self.cuts]))
+
     def early_records(self, most: int) -> list[Record]:
         """The first records."""
         missing = most - len(self.early)
@@ -376,3 +381,25 @@ class Source:
         if not all(log.is_file for log in self.logs):
             return 0.0
         return sum(log.read_bytes for log in self.logs) / max(1, sum(log.size for log in self.logs))
+
+
+# ---- All at once ---------------------------------------------------------------------------------
+
+
+@dataclass(frozen=True)
+class Logs:
+    """What all logs of a command line have."""
+
+    records: list[Record]  # in the order of their stamps
+    named: list[str]  # which actor each name is; none where the names are the numbers
+    cuts: list[str]  # where a log is cut, and what that is
+
+
+def read_logs(names: Sequence[str]) -> Logs:
+    """What all logs have, which need not be in the order of their stamps."""
+    with contextlib.closing(Source(names)) as source:
+        source.again(Open("all is read at once"))
+        records = source.whole()
+        if not records:
+            raise source.no_record()
+        return Logs(records, source.actors.named(), source.cuts)

@@ -9,6 +9,7 @@ from lcrq_tools.port import port_log
 from lcrq_tools.port.port_compare import Comparison, Listed
 from lcrq_tools.port.port_log import Record
 from lcrq_tools.port.port_replay import Replay, Steps
+from lcrq_tools.port.port_stream import Actors
 from lcrq_tools.records import Actor
 from lcrq_tools.start import starts
 from lcrq_tools.start.starts import Trace
@@ -144,8 +145,9 @@ class Told(Replay):
 
 def records_of(*texts: str) -> list[Record]:
     """The records of a log whose actors have the model's numbers."""
-    made = [port_log.record_of(f"a.log:{at}", text, LABELS) for at, text in enumerate(texts, 1)]
-    port_log.number_actors(made)
+    made, actors = [port_log.record_of(f"a.log:{at}", text, LABELS) for at, text in enumerate(texts, 1)], Actors()
+    for record in made:
+        record.actor = actors.number(record.name.encode())
     return made
 
 

@@ -6,7 +6,8 @@ from pathlib import Path
 
 from lcrq_tools import model
 from lcrq_tools.port import port_log
-from lcrq_tools.port.port_log import Logs, Names, Record, Reuse, Unreadable
+from lcrq_tools.port.port_log import Names, Record, Reuse, Unreadable
+from lcrq_tools.port.port_stream import Logs, read_logs
 
 LABELS = set(model.read(model.PAGE.read_text(encoding="utf-8"))[0])
 
@@ -89,16 +90,16 @@ class Merged(unittest.TestCase):
             names = [str(Path(folder) / f"{at}.log") for at in range(len(logs))]
             for name, log in zip(names, logs):
                 Path(name).write_text(log, encoding="ascii")
-            return port_log.read_logs(names)
+            return read_logs(names)
 
     def test_logs_are_merged_by_stamp(self) -> None:
         logs = self.read("# a comment\n1 a deq\n\n4 a Q1\n", "2 b enq 7\n3 b E1\n")
         self.assertEqual([(it.stamp, it.actor) for it in logs.records], [(1, 1), (2, 2), (3, 2), (4, 1)])
-        self.assertEqual((logs.actors, logs.cuts), (["a", "b"], []))
+        self.assertEqual((logs.named, logs.cuts), (["a is 1", "b is 2"], []))
 
     def test_numbers_of_actors_stay(self) -> None:
         logs = self.read("1 3 deq\n2 16 deq\n")
-        self.assertEqual(([it.actor for it in logs.records], logs.actors), ([3, 16], []))
+        self.assertEqual(([it.actor for it in logs.records], logs.named), ([3, 16], []))
 
     def test_a_fault_names_file_line_and_text(self) -> None:
         with self.assertRaisesRegex(Unreadable, r"0\.log:2: `2 a nowhere 1`: no call, label, place or reply"):
@@ -134,13 +135,13 @@ class Merged(unittest.TestCase):
 
     def test_standard_input_is_read_once(self) -> None:
         with self.assertRaisesRegex(Unreadable, "^standard input can be read once, and - is given twice$"):
-            port_log.read_logs(["-", "-"])
+            read_logs(["-", "-"])
 
     def test_an_empty_or_missing_log_is_a_fault(self) -> None:
         with self.assertRaisesRegex(Unreadable, "no record$"):
             self.read("# nothing\n")
         with self.assertRaisesRegex(OSError, "No such file or directory: .nowhere.log.$"):
-            port_log.read_logs(["nowhere.log"])
+            read_logs(["nowhere.log"])
 
 
 class Meanings(unittest.TestCase):
