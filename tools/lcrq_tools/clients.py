@@ -18,9 +18,10 @@ import sys
 import termios
 import time
 from collections.abc import Callable, Iterator, Sequence
+from contextlib import AbstractContextManager
 from dataclasses import dataclass
 from pathlib import Path
-from typing import Self, TypeVar
+from typing import TypeVar
 
 from lcrq_tools.program import PIPE_BYTES, Broken, Ended, script_of
 
@@ -217,7 +218,7 @@ def replies_of(file: Path) -> Path:
     return Path(f"{file}.replies")
 
 
-class Live:
+class Live(AbstractContextManager["Live"]):
     """A run of `view --live`, whose viewers get clients. At the end it is killed, and its clients leave."""
 
     def __init__(self, words: Sequence[str]) -> None:
@@ -225,9 +226,6 @@ class Live:
         pipe, none = subprocess.PIPE, subprocess.DEVNULL
         # in a session of its own, so that Control-C at a terminal isn't for the program
         self.child = subprocess.Popen(words, stdin=none, stdout=pipe, stderr=pipe, start_new_session=True)
-
-    def __enter__(self) -> Self:
-        return self
 
     def __exit__(self, *_: object) -> None:
         for client in self.clients:

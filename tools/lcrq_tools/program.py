@@ -18,8 +18,9 @@ import sys
 import tempfile
 import time
 from collections.abc import Callable, Iterable, Mapping, Sequence
+from contextlib import AbstractContextManager
 from pathlib import Path
-from typing import IO, NamedTuple, ParamSpec, Self
+from typing import IO, NamedTuple, ParamSpec
 
 from lcrq_tools import drafts
 from lcrq_tools.faults import FAULTS, Fault, Parser, text_of
@@ -239,7 +240,7 @@ def stolen_since(ticks: tuple[int, int]) -> float:
 # ---- A line at a time ----------------------------------------------------------------------------
 
 
-class Driven:
+class Driven(AbstractContextManager["Driven"]):
     """A run of the program, to be asked a line at a time, or many: it writes one reply to each."""
 
     def __init__(self, words: Sequence[str], seconds: float = SECONDS) -> None:
@@ -250,9 +251,6 @@ class Driven:
         self.stdin, self.stdout = self.child.stdin, self.child.stdout
         # the clock of the child's processor time, by the number that clock_getcpuclockid(3) gives
         self.clock = (~self.child.pid << 3) | 2
-
-    def __enter__(self) -> Self:
-        return self
 
     def __exit__(self, *_: object) -> None:
         self.child.kill()  # nothing, if it has ended

@@ -9,12 +9,11 @@ status is 1 if a reply is another, or has not come after ten seconds. Only Pytho
 """
 
 import argparse
-import tempfile
 from collections.abc import Iterator
-from pathlib import Path
 
 from lcrq_tools import program
 from lcrq_tools.checks import command_rows
+from lcrq_tools.checks.answers import file_of
 
 SECONDS = 10.0  # a reply that takes longer does not come
 
@@ -33,10 +32,8 @@ def checks_of(driven: program.Driven, asked: list[tuple[str, str]]) -> Iterator[
 
 def view_fault(built: str, asked: list[tuple[str, str]]) -> str:
     """What is wrong with a view of a script of all lines, or nothing."""
-    with tempfile.TemporaryDirectory() as folder:
-        script = Path(folder) / "asked.script"
-        script.write_text("".join(f"{line}\n" for line, _ in asked), encoding="ascii")
-        ended = program.run([built, "view", str(script)])
+    with file_of(program.script_of(line for line, _ in asked)) as script:
+        ended = program.run([built, "view", script])
     wanted = "\n".join(["viewer 1", *(reply for _, reply in asked), f"history {len(asked)}", ""])
     return "" if ended == (0, wanted.encode(), "") else f"{ended}, wanted {wanted!r}"
 

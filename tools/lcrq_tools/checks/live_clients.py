@@ -12,11 +12,12 @@ import subprocess
 import sys
 import threading
 from collections.abc import Mapping, Sequence
+from contextlib import AbstractContextManager
 from pathlib import Path
 from typing import Any, Self
 from urllib.parse import urlsplit
 
-from lcrq_tools.live.folded import Moment, folded
+from lcrq_tools.live.folded import Moment, folded, moments_of
 from lcrq_tools.live.server import CONTENT
 from lcrq_tools.places import TOP
 from lcrq_tools.program import Broken
@@ -27,7 +28,7 @@ LAST_LINE = "Control-C ends it."
 Answered = tuple[int, Mapping[str, str], bytes]
 
 
-class Served:
+class Served(AbstractContextManager["Served"]):
     """A running server, which is killed at the end."""
 
     script = TOP / "tools" / "live.py"
@@ -47,9 +48,6 @@ class Served:
             self.said.append(line.removesuffix("\n"))
         self.addresses = [line.rpartition(" ")[2] for line in self.said if " http://" in line]
         self.kept = Path(next(line for line in self.said if "is kept in" in line).rpartition(" ")[2])
-
-    def __enter__(self) -> Self:
-        return self
 
     def __exit__(self, *_: object) -> None:
         self.child.kill()
@@ -160,11 +158,9 @@ class Follower(threading.Thread):
     def fetch(self) -> None:
         """Fetches the run."""
         run = self.tab.run()
-        moment: Moment = {}
         self.event, self.now = run["event"], run["above"]
         self.rows |= run["rows"]
-        for change in run["moments"]:
-            moment = folded(moment, change)
+        for moment in moments_of(run):
             self.take(moment)
 
     def take(self, moment: Moment) -> None:

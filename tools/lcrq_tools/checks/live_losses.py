@@ -14,7 +14,7 @@ from lcrq_tools import history, program
 from lcrq_tools.checks import histories
 from lcrq_tools.checks.live_clients import Served, Tab, at_once
 from lcrq_tools.checks.live_moments import WORLD, Line
-from lcrq_tools.live.folded import Moment, folded
+from lcrq_tools.live.folded import moments_of
 
 
 class Asker(threading.Thread):
@@ -49,10 +49,7 @@ class Asker(threading.Thread):
 
 def stands(tab: Tab) -> object:
     """What a page has of the last moment."""
-    run = tab.run()
-    moment: Moment = {}
-    for change in run["moments"]:
-        moment = folded(moment, change)
+    moment = moments_of(tab.run())[-1]
     return [moment[name] for name in ("live", "undone", "places", "actors", "rows", "written")], tab.lines()
 
 

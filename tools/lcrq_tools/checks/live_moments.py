@@ -10,7 +10,7 @@ from pathlib import Path
 from typing import Any
 
 from lcrq_tools.checks import replies
-from lcrq_tools.checks.replies import Call, Replies
+from lcrq_tools.checks.replies import Replies
 from lcrq_tools.draw.figure import Session
 from lcrq_tools.live.folded import Moment
 from lcrq_tools.records import Event
@@ -25,14 +25,6 @@ def session_of(built: str, script: Path, line: int) -> Session:
     """The session that so many lines of a script leave."""
     named: dict[str, object] = {"script": str(script), "history": None, "trace": None, "actors": ACTORS, "ring": RING}
     return Session(argparse.Namespace(**named, lines=line, refused=True, program=built))
-
-
-def actors_fault(state: Moment, asked: Replies) -> str:
-    """What of the actors isn't as the program replies, or nothing."""
-    chips = {int(actor): chip for actor, chip in state["actors"].items() if chip}
-    return asked.actors_fault(
-        {actor: Call(f"{chip['point']} {chip['call']}", chip["words"], chip["place"]) for actor, chip in chips.items()}
-    )
 
 
 def steps_fault(
@@ -58,14 +50,12 @@ def moment_fault(
     """What is wrong with a moment, or nothing."""
     line: int = state["line"]
     session = session_of(built, script, line)
-    trace = replies.trace_of(session)
-    with replies.loaded(built, trace) as ask:
-        asked = Replies(ask, session, replies.segments_of(trace), replies.array())
+    asked = replies.asked_at(session)
     labels = replies.labels_along(session.words, asked.steps)
     given = (state["viewer"], state["text"], state["reply"])
     fault = (
         ("" if not line or given == tuple(lines[line - 1]) else f"it is {given}, wanted {lines[line - 1]}")
-        or asked.drawn_fault(state) or actors_fault(state, asked)
+        or asked.drawn_fault(state) or asked.chips_fault(state["actors"])
         or steps_fault(state, rows, above, asked, labels, lines)
     )
     return fault and f"line {line}: {fault}"

@@ -22,7 +22,7 @@ from lcrq_tools.checks.live_clients import Follower, Served, Tab, at_once
 from lcrq_tools.checks.live_losses import Asker, end_fault
 from lcrq_tools.checks.live_moments import ACTORS, RING, WORLD, Line, moment_fault
 from lcrq_tools.checks.random_scripts import random_script
-from lcrq_tools.live.folded import Moment, folded
+from lcrq_tools.live.folded import moments_of
 from lcrq_tools.options import start_words
 
 TABS, LINES = 4, 250  # and how many lines each asks
@@ -86,12 +86,8 @@ def past_fault(
     """What is wrong with parts of the run that are fetched, or nothing."""
     for line in chance.sample(range(1, len(lines)), ROUND):
         run = tab.run(line)
-        moment: Moment = {}
-        for change in run["moments"]:
-            moment = folded(moment, change)
-            if moment["line"] == line:
-                break
-        if moment["line"] != line:
+        moment = next((moment for moment in moments_of(run) if moment["line"] == line), None)
+        if not moment:
             return f"line {line} isn't in the part around it"
         if fault := moment_fault(built, script, lines, moment, run["rows"], run["above"]):
             return f"fetched, {fault}"

@@ -187,10 +187,7 @@ def last_fault(svg: str, session: figure.Session, steps: Sequence[Step]) -> str:
 def faults_of(svg: str, arguments: argparse.Namespace) -> str:
     """The first thing that is wrong with a moment, but for its labels' boxes, or nothing."""
     drawn, session = read(svg), figure.Session(arguments)
-    trace = replies.trace_of(session)
-    with replies.loaded(arguments.program, trace) as ask:
-        segments = {*drawn.segments, *drawn.broken, *replies.segments_of(trace)}
-        asked = Replies(ask, session, segments, replies.array())
+    asked = replies.asked_at(session, {*drawn.segments, *drawn.broken})
     return (
         places_fault(drawn, asked)
         or segments_fault(drawn, asked)

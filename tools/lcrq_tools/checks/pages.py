@@ -36,7 +36,7 @@ from lcrq_tools.entry import TOOLS, tools_in
 from lcrq_tools.faults import Parser
 from lcrq_tools.look import contracts, reached, statement
 from lcrq_tools.markdown import LINK, QUOTED, blocks_of, headings_of
-from lcrq_tools.program import CRATES, EXAMPLES, TOP, line_of, tried
+from lcrq_tools.program import CRATES, EXAMPLES, TOP, print_checks, tried
 
 REPLY = re.compile(rf"(?:{'|'.join(sorted(manual.REPLIES))}|viewer|history)\b.*")
 NUMBERED = re.compile(rf" *(?:\d+|-) {REPLY.pattern}")  # a reply to a viewer of `view --live`
@@ -408,8 +408,4 @@ def main() -> int:
     """Prints the checks of all pages; returns the exit status."""
     parser = Parser(__doc__)
     parser.add_argument("--store", action="store_true", help="put right what comes from tools/definitions.py")
-    status = 0
-    for name, fault in all_checks(parser.parse_args().store):
-        print(line_of(name, fault))
-        status = 1 if fault else status
-    return status
+    return print_checks(all_checks(parser.parse_args().store))

@@ -23,8 +23,8 @@ import tempfile
 import termios
 import time
 from collections.abc import Callable, Iterator, Sequence
+from contextlib import AbstractContextManager
 from pathlib import Path
-from typing import Self
 
 from lcrq_tools import program
 from lcrq_tools.program import EXAMPLES, TOP, Broken, Skipped, tried
@@ -35,7 +35,7 @@ CODES = re.compile(r"\033\[[0-9;?]*[a-zA-Z]|\033[=>]|\a|\x0f")
 CALL = ["enq 1 7", "go 1 x3"]
 
 
-class Terminal:
+class Terminal(AbstractContextManager["Terminal"]):
     """The prompt in a terminal of its own. It is killed at the end."""
 
     def __init__(self, words: Sequence[str], folder: str, columns: int = 100, kind: str = "xterm") -> None:
@@ -48,9 +48,6 @@ class Terminal:
                                       start_new_session=True, preexec_fn=lambda: fcntl.ioctl(0, termios.TIOCSCTTY, 0))
         os.close(inside)
         self.raw = ""
-
-    def __enter__(self) -> Self:
-        return self
 
     def __exit__(self, *_: object) -> None:
         self.child.kill()

@@ -441,35 +441,31 @@ PARTS: dict[str, Part] = OF_TESTS | {
 }
 
 
-def print_part(part: str, outcomes: Outcomes) -> int:
-    """Prints what became of a part: for each of its checks how many points were refused, if it is
-    one that refuses. Returns how many are wrong."""
-    total, wrong = 0, 0
-    for name, points, fault in outcomes:
-        total += points or 0
-        fault = fault or ("nothing was refused" if points == 0 else "")
-        wrong += bool(fault)
-        count = "" if points is None else f": {points} refused"
-        print(f"WRONG {part}: {name}: {fault}" if fault else f"ok    {part}: {name}{count}", flush=True)
-    if total:
-        print(f"      {part}: {total} points refused", flush=True)
-    return wrong
+def checks_of(given: argparse.Namespace, parts: Iterable[str]) -> Iterator[tuple[str, str]]:
+    """The checks of these parts, each a name and what is wrong, or nothing: with how many points were refused, if a
+    part is one that refuses, and then how many in all of it."""
+    with tempfile.TemporaryDirectory() as folder:
+        refuser = Refuser(Path(folder))
+        for part in parts:
+            total = 0
+            for name, points, fault in PARTS[part](given, refuser):
+                total += points or 0
+                count = "" if points is None else f": {points} refused"
+                yield f"{part}: {name}{count}", fault or ("nothing was refused" if points == 0 else "")
+            if total:
+                yield f"{part}: {total} points refused", ""
 
 
 def main() -> int:
+    """Prints each check; returns the exit status."""
     parser = Parser(__doc__, "tests none")
     about = f"{', '.join(PARTS)}; all if none is named"
     parser.add_argument("parts", nargs="*", choices=[[], *PARTS], metavar="PART", help=about)
     add_program(parser)
     tests = str(program.CRATES / "shortages" / "out" / "shortages_tests")
     parser.add_argument("--tests", default=tests, help="the built tests of crates/shortages")
-    given, wrong = parser.parse_args(), 0
+    given = parser.parse_args()
     parts = given.parts or list(PARTS)
     if not OF_TESTS.keys().isdisjoint(parts):
         required(given.tests, "rt ci, which is the gate")
-    with tempfile.TemporaryDirectory() as folder:
-        refuser = Refuser(Path(folder))
-        for part in parts:
-            wrong += print_part(part, PARTS[part](given, refuser))
-    print("nothing is wrong" if not wrong else f"{wrong} wrong")
-    return 1 if wrong else 0
+    return program.print_checks(checks_of(given, parts))

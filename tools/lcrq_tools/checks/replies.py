@@ -194,6 +194,13 @@ class Replies:
             return f"the actors {[*calls]} are shown in a call, and {self.busy} are in one"
         return next(filter(None, (self.call_fault(actor, call) for actor, call in calls.items())), "")
 
+    def chips_fault(self, chips: Mapping[str, Any]) -> str:
+        """Which actor of a page's moment has another call than replied, or nothing."""
+        return self.actors_fault({
+            int(actor): Call(f"{chip['point']} {chip['call']}", chip["words"], chip["place"])
+            for actor, chip in chips.items() if chip
+        })
+
     def call_fault(self, actor: int, call: Call) -> str:
         """What of an actor in a call isn't as replied, or nothing."""
         about, _, rest = self.actors[actor].partition(" crq ")  # as it stands, not by records.py
@@ -204,6 +211,13 @@ class Replies:
                 return f"actor {actor} has {word}, and its words are crq {rest}"
         wanted, reply = self.touched(actor), self.tried[actor][0]
         return "" if call.place == wanted else f"actor {actor} would touch {call.place}, wanted {wanted} by {reply}"
+
+
+def asked_at(session: Session, drawn: Collection[str] = ()) -> Replies:
+    """The replies about a session, which is loaded as a trace, and about these segments and those of its start."""
+    trace = trace_of(session)
+    with loaded(session.words[0], trace) as ask:
+        return Replies(ask, session, {*drawn, *segments_of(trace)}, array())
 
 
 # ---- What a drawing says ---------------------------------------------------------------------------

@@ -26,7 +26,7 @@ from lcrq_tools import program
 from lcrq_tools.checks import histories, pictures, replies
 from lcrq_tools.checks.histories import Run
 from lcrq_tools.checks.random_scripts import LONG, MARKED, drawing_words, random_script
-from lcrq_tools.checks.replies import Call, Replies
+from lcrq_tools.checks.replies import Replies
 from lcrq_tools.draw.boxes import SLOTS
 from lcrq_tools.faults import Fault
 from lcrq_tools.history import History
@@ -89,14 +89,6 @@ def array_fault(state: State) -> str:
     return "".join(f"slot {slot} is not in {state['array']}" for slot in used if not first <= slot <= last)
 
 
-def actors_fault(state: State, asked: Replies) -> str:
-    """What of the actors isn't as the program replies, or nothing."""
-    return asked.actors_fault({
-        int(actor): Call(f"{chip['point']} {chip['call']}", chip["words"], chip["place"])
-        for actor, chip in state["actors"].items() if chip
-    })
-
-
 def rows_fault(data: Data, state: State, asked: Replies, words: list[str]) -> str:
     """Which step isn't as a run of these words replies, or nothing."""
     counts, listed = (state["live"], state["undone"]), state["rows"]
@@ -128,14 +120,12 @@ def state_fault(text: str, arguments: argparse.Namespace, each: int) -> str:
     for index in sorted({*range(0, len(states), each), len(states) - 1}):
         state, line = states[index], data["first"] + index
         session = run.at(line)
-        trace = replies.trace_of(session)
-        with replies.loaded(arguments.program, trace) as ask:
-            asked = Replies(ask, session, replies.segments_of(trace), replies.array())
+        asked = replies.asked_at(session)
         begun = "" if f"{asked.live} live steps" in state["said"] else f"it says {state['said']}"
         fault = (
             asked.drawn_fault(state)
             or array_fault(state)
-            or actors_fault(state, asked)
+            or asked.chips_fault(state["actors"])
             or rows_fault(data, state, asked, session.words)
             or (words_fault(state, run.text(line), given[line - 1], told[line - 1]) if index else begun)
             or ("" if state["line"] == line else f"it is line {state['line']}")

@@ -13,12 +13,12 @@ asked, and the status is 1 if any of them is wrong. Only Python's standard libra
 """
 
 import argparse
-import tempfile
 from collections.abc import Iterator
 
+from lcrq_tools.checks.answers import file_of
 from lcrq_tools.faults import Parser
 from lcrq_tools.options import add_program
-from lcrq_tools.program import Broken, Driven
+from lcrq_tools.program import Broken, Driven, print_checks
 from lcrq_tools.start.starts import FAR, dequeuers
 
 ACTORS = 8
@@ -132,9 +132,8 @@ def all_checks() -> Checks:
     yield from undoing()
 
 
-def fault_and_slowest(driven: Driven, lines: Lines, limit: float) -> tuple[str, str]:
-    """What is wrong with the replies to these lines or with the time that one takes, or nothing;
-    and what the slowest line took."""
+def slowest_and_fault(driven: Driven, lines: Lines, limit: float) -> tuple[str, str]:
+    """What the slowest of these lines took; and what is wrong with their replies or with that time, or nothing."""
     fault, most, slowest = "", 0.0, ""
     for line, wanted in lines:
         reply, took, _ = driven.ask(line)
@@ -144,34 +143,25 @@ def fault_and_slowest(driven: Driven, lines: Lines, limit: float) -> tuple[str, 
             fault = f"`{line}` has the reply `{reply}`, wanted `{wanted}`"
     if most > limit and not fault:
         fault = f"`{slowest}` took {most:,.0f} ms"
-    return fault, f"`{slowest}` took {most:.1f} ms"
+    return f"`{slowest}` took {most:.1f} ms", fault
 
 
-def faults(given: argparse.Namespace, trace: str) -> list[str]:
-    """Runs the checks, and prints and returns what is wrong."""
-    wrong: list[str] = []
-    with Driven([given.program, "load", trace]) as driven:
-        for name, lines in all_checks():
-            fault, slowest = fault_and_slowest(driven, lines, given.limit)
-            wrong += [fault] * bool(fault)
-            print(f"WRONG {name}: {fault}" if fault else f"ok    {name}: {slowest}", flush=True)
-        if status := driven.end():
-            raise Broken(f"the status is {status}")
-    return wrong
+def faults(given: argparse.Namespace) -> Iterator[tuple[str, str]]:
+    """The checks, each a name with its slowest line and what is wrong, or nothing; and the end of the program."""
+    with file_of(dequeuers(RING, range(1, ACTORS + 1))) as trace, Driven([given.program, "load", trace]) as driven:
+        try:
+            for name, lines in all_checks():
+                slowest, fault = slowest_and_fault(driven, lines, given.limit)
+                yield f"{name}: {slowest}", fault
+            status = driven.end()
+            yield "the end", f"the status is {status}" if status else ""
+        except Broken as fault:
+            yield "the end", str(fault)
 
 
 def main() -> int:
+    """Prints each check; returns the exit status."""
     parser = Parser(__doc__, "--limit 2000")
     add_program(parser)
     parser.add_argument("--limit", type=float, default=1000.0, help="the most milliseconds of a line (1000)")
-    given = parser.parse_args()
-    with tempfile.NamedTemporaryFile("w", suffix=".trace") as trace:
-        trace.write(dequeuers(RING, range(1, ACTORS + 1)))
-        trace.flush()
-        try:
-            wrong = faults(given, trace.name)
-        except Broken as fault:
-            wrong = [str(fault)]
-            print(f"WRONG {fault}")
-    print(f"{len(wrong)} wrong" if wrong else "nothing is wrong")
-    return 1 if wrong else 0
+    return print_checks(faults(parser.parse_args()))

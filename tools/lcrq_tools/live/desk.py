@@ -11,8 +11,8 @@ import tempfile
 import threading
 import time
 from collections.abc import Sequence
+from contextlib import AbstractContextManager
 from pathlib import Path
-from typing import Self
 
 from lcrq_tools.clients import Client, Live, replies_of, serve
 from lcrq_tools.program import Broken, lines_of, script_of
@@ -29,7 +29,7 @@ def numbered(reply: str) -> tuple[int | None, str]:
     return None if number == NO_CALL else int(number), rest
 
 
-class Desk:
+class Desk(AbstractContextManager["Desk"]):
     """A running desk. The viewers are numbered from 1; the last one asks what is opened."""
 
     def __init__(self, program: str, options: Sequence[str], viewers: int, opened: Sequence[str] = ()) -> None:
@@ -51,9 +51,6 @@ class Desk:
             said = self.live.last_words().rpartition("lcrqdb: ")[2]
             self.close()
             raise Broken(said or str(fault)) from fault
-
-    def __enter__(self) -> Self:
-        return self
 
     def __exit__(self, *_: object) -> None:
         self.close()

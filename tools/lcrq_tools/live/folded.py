@@ -5,6 +5,8 @@ A moment has only what differs from the one before it. Of the rows so many are k
 nothing stands for what is gone.
 """
 
+from collections.abc import Mapping
+from itertools import accumulate
 from typing import Any
 
 Change = dict[str, Any]  # as JSON has it
@@ -24,3 +26,9 @@ def folded(before: Moment, change: Change) -> Moment:
             merged = before.get(part, {}) | change[part]
             after[part] = {name: value for name, value in merged.items() if value is not None or part == "actors"}
     return after
+
+
+def moments_of(run: Mapping[str, Any]) -> list[Moment]:
+    """The whole moments of a run as the server hands it out."""
+    changes: list[Change] = [{}, *run["moments"]]
+    return [*accumulate(changes, folded)][1:]

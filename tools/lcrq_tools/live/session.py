@@ -16,7 +16,7 @@ from typing import Any, NamedTuple, Protocol
 
 from lcrq_tools.faults import FAULTS, Fault
 from lcrq_tools.live.desk import Desk
-from lcrq_tools.live.folded import Change, Moment, folded
+from lcrq_tools.live.folded import Change, Moment, folded, moments_of
 from lcrq_tools.live.kept import Keep, Kept, Note, call_line, name_line, note_line
 from lcrq_tools.options import start_words
 from lcrq_tools.speak import forms
@@ -157,9 +157,7 @@ class LiveRun:
         run: Run = self.mirror.run()
         self.seen = run  # as long as no other line is asked
         self.above, self.rows = run["above"], {**run["rows"]}
-        self.moment: Moment = {}
-        for change in run["moments"]:
-            self.moment = folded(self.moment, change)
+        self.moment = moments_of(run)[-1]
 
     # ---- Lines
 

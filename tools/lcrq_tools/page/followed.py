@@ -5,8 +5,8 @@ have become many, the data begin anew with that line.
 """
 
 from collections.abc import Collection, Sequence
+from contextlib import AbstractContextManager
 from dataclasses import replace
-from typing import Self
 
 from lcrq_tools.draw.lanes import Row, Widths
 from lcrq_tools.page import page_data, page_lanes, page_moments, slides
@@ -19,7 +19,7 @@ from lcrq_tools.records import Place
 FOLLOWED, LISTED = 100, 200  # lines before the last one whose moments are known, and steps on each side of the border
 
 
-class Followed:
+class Followed(AbstractContextManager["Followed"]):
     """A run that is followed. Viewers are named as soon as there are two."""
 
     def __init__(
@@ -30,9 +30,6 @@ class Followed:
         self.mirror = Mirror(words, lines, viewers, max(0, len(lines) - followed), listed)
         self.pseudocode = page_data.Pseudocode()
         self.begin()
-
-    def __enter__(self) -> Self:
-        return self
 
     def __exit__(self, *_: object) -> None:
         self.close()

@@ -8,8 +8,8 @@ as long in a long run as in a short one.
 
 import functools
 from collections.abc import Container, Iterable, Mapping, Sequence
+from contextlib import AbstractContextManager
 from dataclasses import dataclass, field, replace
-from typing import Self
 
 from lcrq_tools.draw.askers import viewer_of
 from lcrq_tools.draw.boxes import MOST_KEPT, SLOTS, counted
@@ -97,7 +97,7 @@ def by_name(item: tuple[str, str]) -> tuple[int, ...]:
     return number_of(item[0])
 
 
-class Mirror:
+class Mirror(AbstractContextManager["Mirror"]):
     """A run that is followed. `states` has its moments from `begin` lines on."""
 
     def __init__(
@@ -126,9 +126,6 @@ class Mirror:
         self.states = [self.begun()]
         for line, viewer in zip(lines[first:], viewers[first:] or [0] * (len(lines) - first)):
             self.obey(line, viewer)
-
-    def __enter__(self) -> Self:
-        return self
 
     def __exit__(self, *_: object) -> None:
         self.close()
