@@ -33,19 +33,31 @@ def refusals(tab: Tab) -> Iterator[tuple[str, int, str, str, bytes | None, dict[
     for origin in ("http://evil.example", "null", f"https://{tab.host}", f"http://127.0.0.1:{int(port) - 1}"):
         yield f"Origin {origin}", 403, "POST", ask, body, own | {"Origin": origin}
     yield "no Origin", 403, "POST", ask, body, {"Content-Type": CONTENT}
+    yield "another's Origin for the page", 403, "GET", tab.base, None, {"Origin": "http://evil.example"}
     for token in (tab.base[1:-2], f"{tab.base[1:-1]}A", "", "x" * 22):
         yield f"token {token}", 404, "POST", f"/{token}/ask", body, own
-    for method in ("GET", "PUT", "DELETE", "OPTIONS", "PATCH", "HEAD"):
+    for method in ("GET", "PUT", "DELETE", "OPTIONS", "PATCH", "HEAD", "TRACE"):
         yield method, 405, method, ask, body if method != "GET" else None, own
-    for kind in ("application/json", "text/plain", "application/x-www-form-urlencoded", "multipart/form-data"):
+    yield "POST", 405, "POST", f"{tab.base}run", b"{}", own
+    kinds = ("application/json", "text/plain", "application/x-www-form-urlencoded", "multipart/form-data")
+    for kind in (*kinds, f"{CONTENT}; a=b"):
         yield kind, 415, "POST", ask, body, own | {"Content-Type": kind}
     yield "no content type", 415, "POST", ask, body, {"Origin": own["Origin"]}
-    for wrong in (b"", b"{", b"[]", b"[" * MOST_BODY, b"\xff\xfe", b'"go 1"'):
+    for wrong in (b"", b"{", b"[]", b"[" * MOST_BODY, b"\xff\xfe", b'"go 1"', b'{"tab":7}', b'{"tab":"x"}'):
         yield f"body {wrong[:9]!r}", 400, "POST", ask, wrong, own
+    fields: list[dict[str, object]] = [{"viewer": "1"}, {"viewer": 1.5}, {"viewer": True}, {"line": None}]
+    for other in (*fields, {"tab": "x" * 99}):
+        yield f"fields {other}", 400, "POST", ask, json.dumps(json.loads(body) | other).encode(), own
+    for name, value in (("ring", 3), ("actors", 17)):
+        opened = json.dumps({"text": "go 1\n", name: value}).encode()
+        yield f"{value} for {name}", 400, "POST", f"{tab.base}open", opened, own
     yield "a long body", 413, "POST", ask, b" " * (MOST_BODY + 1), own
     yield "a very long body", 413, "POST", ask, b" " * (1 << 20), own
     yield "another's tab", 400, "POST", ask, body.replace(tab.name.encode(), b"tab-of-others"), own
-    yield "a path", 404, "GET", f"{tab.base}../../etc/passwd", None, {}
+    names = ("../../etc/passwd", "../x", "no", "run/")
+    for path in ("/", "//", "/run", f"{tab.base[:-1]}x/", "http://a/", *(f"{tab.base}{name}" for name in names)):
+        yield f"path {path}", 404, "GET", path, None, {"Host": tab.host}
+    yield "no number", 400, "GET", f"{tab.base}lines?from=x", None, {}
 
 
 def let_in_fault(built: str, folder: Path) -> str:
