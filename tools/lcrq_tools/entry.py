@@ -1,13 +1,15 @@
 """The one way in: a tool by its name, as `lcrq NAME` where pip has installed the package, and by its script in
 tools/ where it hasn't.
 
-A name stands for a module with a function `main`, or for a folder of such modules, which are named next:
-`lcrq check pages`. Without a name, each is listed with the first sentence of what it says of itself. What
-isn't there isn't listed: the archive that is handed out has only the tools that its pages name. What takes
-the repository is run by the repository's own package. Only Python's standard library is used.
+A name stands for a module with a function `main`, or with one `checks`, which gives what it finds with the options;
+or for a folder of such modules, which are named next: `lcrq check pages`. Without a name, each is listed with the first
+sentence of what it says of itself. What isn't there isn't listed: the archive that is handed out has only the tools
+that its pages name. What takes the repository is run by the repository's own package. Only Python's standard library is
+used.
 """
 
 import ast
+import functools
 import importlib
 import os
 import re
@@ -17,6 +19,7 @@ from collections.abc import Callable, Mapping
 from pathlib import Path
 from typing import NoReturn
 
+from lcrq_tools import program
 from lcrq_tools.faults import Fault, status_of
 from lcrq_tools.places import CRATES, PACKAGE, TOP
 
@@ -68,15 +71,19 @@ def about(module: str) -> str:
     return re.split(r"(?<=\.) ", " ".join(paragraph.split()))[0]
 
 
-def has_main(module: str) -> bool:
-    """Whether a module can be run, and is no part of another one."""
-    return any(isinstance(part, ast.FunctionDef) and part.name == "main" for part in parsed(module).body)
-
-
 def tools_in(folder: str) -> dict[str, str]:
-    """The modules of a folder that can be run, by their names."""
+    """The modules of a folder that can be run, and are no parts of other ones, by their names."""
     modules = {path.stem: f"{folder}.{path.stem}" for path in sorted(file_of(folder).glob("*.py"))}
-    return {name: module for name, module in modules.items() if has_main(module)}
+    functions = {name: {part.name for part in parsed(module).body if isinstance(part, ast.FunctionDef)}
+                 for name, module in modules.items()}
+    return {name: module for name, module in modules.items() if not functions[name].isdisjoint(("main", "checks"))}
+
+
+def main_of(module: str) -> Callable[[], int]:
+    """What runs a module."""
+    found = importlib.import_module(f"lcrq_tools.{module}")
+    main: Callable[[], int] | None = getattr(found, "main", None)
+    return main or functools.partial(program.run_checks, found.__doc__, found.checks)
 
 
 def tools_here() -> dict[str, str]:
@@ -108,8 +115,7 @@ def run(called: str, module: str, words: list[str]) -> int:
     sys.argv = [called, *words]
     if module.split(".")[0] in OF_THE_REPOSITORY and not CRATES.is_dir():
         raise Fault("this takes the repository of lcrqdb, and the current folder is not in one")
-    main: Callable[[], int] = importlib.import_module(f"lcrq_tools.{module}").main
-    return main()
+    return main_of(module)()
 
 
 def script_around(words: list[str]) -> Path | None:

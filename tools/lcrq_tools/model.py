@@ -7,7 +7,6 @@ words of its own: it shares nothing with `records.py`. Only Python's standard li
 """
 
 import re
-from collections.abc import Iterator
 from dataclasses import dataclass
 
 from lcrq_tools.faults import Fault

@@ -17,7 +17,7 @@ import subprocess
 import sys
 import tempfile
 import time
-from collections.abc import Callable, Iterable, Mapping, Sequence
+from collections.abc import Callable, Iterable, Iterator, Mapping, Sequence
 from contextlib import AbstractContextManager
 from pathlib import Path
 from typing import IO, NamedTuple, ParamSpec
@@ -370,25 +370,20 @@ def tried(check: Callable[Given, str], *given: Given.args, **named: Given.kwargs
 
 
 def run_checks(about: str | None, checks: Checks) -> int:
-    """What a check does that has no option but the program: prints what `checks` finds with these
-    options, and returns the exit status."""
+    """What `entry.py` does for a check that has no option but the program: prints what `checks` finds with
+    these options, and returns the exit status."""
     parser = Parser(about)
     add_program(parser)
     return print_checks(checks(parser.parse_args()))
 
 
-def run_rows(about: str | None, rows: Rows) -> int:
-    """What a check does that tries each row with each build of the program: prints what is wrong with
-    them, and last how many rows and which builds there are; returns the exit status."""
-    parser = Parser(about)
-    add_program(parser)
-    builds = builds_of(parser.parse_args().program)
-    status = print_checks(
-        (f"{name}, by {build.name}", tried(check, str(build))) for build in builds for name, check in rows
-    )
+def by_each_build(built: str, rows: Rows) -> Iterator[tuple[str, str]]:
+    """Each row by each build of the program, with what is wrong, or nothing; and last how many rows and which builds
+    there are."""
+    builds = builds_of(built)
+    yield from ((f"{name}, by {build.name}", tried(check, str(build))) for build in builds for name, check in rows)
     names = (str(build.relative_to(TOP) if build.is_relative_to(TOP) else build) for build in builds)
-    print(f"{len(rows)} rows, each by {' and '.join(names)}")
-    return status
+    yield f"{len(rows)} rows, each by {' and '.join(names)}", ""
 
 
 def line_of(name: str, fault: str) -> str:

@@ -399,7 +399,7 @@ def held_fault(built: str, asked: Asked, most: int) -> str:
 # ---- All -----------------------------------------------------------------------------------------
 
 
-def all_checks(given: argparse.Namespace) -> Iterator[tuple[str, str]]:
+def checks(given: argparse.Namespace) -> Iterator[tuple[str, str]]:
     """The rows, each a name and what is wrong, or nothing."""
     built = given.program
     yield f"{MOST_STEPS:,} steps at {OF_A_ROUND * RINGS:,} places, and one too many", tried(places_fault, built)
@@ -415,8 +415,3 @@ def all_checks(given: argparse.Namespace) -> Iterator[tuple[str, str]]:
     bounds = BOUNDS.search(PAGE.read_text(encoding="utf-8"))
     for (name, asked), most in zip(HOLDING.items(), bounds.groups() if bounds else ("0", "0")):
         yield f"{name}, in {most} MB", tried(held_fault, built, asked(), int(most))
-
-
-def main() -> int:
-    """Prints each row; returns the exit status."""
-    return program.run_checks(__doc__, all_checks)

@@ -4,7 +4,7 @@
 
 import contextlib
 import tempfile
-from collections.abc import Iterable, Iterator
+from collections.abc import Iterator
 
 from lcrq_tools import program
 from lcrq_tools.program import Broken, Ended
@@ -34,11 +34,6 @@ def start_of(actor: str = ENQUEUES, array: str = '{"cells":[],"head":0,"tail":0}
 def session_of(events: str = "[]", marks: str = "[]", start: str = '{"fresh":1}', undone: str = "[]") -> str:
     """A trace of version 2 over rings of two cells."""
     return f'{{"events":{events},"marks":{marks},"ring":2,"start":{start},"undone":{undone},"version":2}}'
-
-
-def script_of(lines: Iterable[str]) -> str:
-    """The script of these lines."""
-    return "".join(f"{line}\n" for line in lines)
 
 
 # ---- Answers -------------------------------------------------------------------------------------

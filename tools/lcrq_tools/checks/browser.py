@@ -334,7 +334,7 @@ def checks(browser: Browser | None, folder: Path, given: argparse.Namespace) -> 
     if not given.names or LONG in given.names:
         yield "a run of 400 lines", long_fault(browser, folder, given) if browser else skipped
     if not given.names or LIVE in given.names:
-        yield from browser_live.checks(browser, folder, given) if browser else [("the live page", skipped)]
+        yield from browser_live.live_checks(browser, folder, given) if browser else [("the live page", skipped)]
 
 
 def missing() -> str:

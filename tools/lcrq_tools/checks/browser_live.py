@@ -418,7 +418,7 @@ def acts_of(
                 yield f"live, {name}", f"{type(fault).__name__} {fault}"
 
 
-def checks(browser: Any, folder: Path, given: argparse.Namespace) -> Iterator[tuple[str, str]]:
+def live_checks(browser: Any, folder: Path, given: argparse.Namespace) -> Iterator[tuple[str, str]]:
     """The checks of a live page."""
     of = functools.partial(acts_of, browser, folder, given)
     yield from of(WORLD, ACTS)

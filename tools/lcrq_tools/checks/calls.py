@@ -194,8 +194,3 @@ def checks(given: argparse.Namespace) -> Iterator[tuple[str, str]]:
     yield "a log that loses a value", said_fault(given, [str(EXAMPLES / "port" / "unsafe-ignored.log")], 1, LOST)
     for name, calls, status, wanted in BY_HAND:
         yield f"a log by hand: {name}", hand_fault(given, calls, status, wanted)
-
-
-def main() -> int:
-    """Prints each check; returns the exit status."""
-    return program.run_checks(__doc__, checks)

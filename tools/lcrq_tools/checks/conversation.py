@@ -38,14 +38,9 @@ def view_fault(built: str, asked: list[tuple[str, str]]) -> str:
     return "" if ended == (0, wanted.encode(), "") else f"{ended}, wanted {wanted!r}"
 
 
-def all_checks(given: argparse.Namespace) -> Iterator[tuple[str, str]]:
+def checks(given: argparse.Namespace) -> Iterator[tuple[str, str]]:
     """Each line, with what is wrong with the reply to it, or nothing; then the view."""
     asked = command_rows.asked_rows()
     with program.Driven([given.program, "run", "-"], SECONDS) as driven:
         yield from checks_of(driven, asked)
     yield "a view of all lines", view_fault(given.program, asked)
-
-
-def main() -> int:
-    """Prints each line and the view; returns the exit status."""
-    return program.run_checks(__doc__, all_checks)

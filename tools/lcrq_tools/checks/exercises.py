@@ -22,10 +22,10 @@ from collections.abc import Iterator
 from dataclasses import dataclass
 
 from lcrq_tools import program
-from lcrq_tools.checks.answers import report_of, run_over, script_of
+from lcrq_tools.checks.answers import report_of, run_over
 from lcrq_tools.checks.lessons import LESSONS, options_in, text_of
 from lcrq_tools.faults import Fault
-from lcrq_tools.program import EXAMPLES, lines_of
+from lcrq_tools.program import EXAMPLES, lines_of, script_of
 
 HEAD, CHANGES = "| Line | Reply |\n|---|---|\n", "| In place of | Write |\n|---|---|\n"
 # Which lines come before those of a table: how many, how often which ones again, of which script.
@@ -109,7 +109,7 @@ def answer_fault(built: str, lesson: str, page: str, answer: Answer) -> str:
     elif answer.changes or "\nRun over " in page:
         raise Fault(f"there is no {trace}")
     else:
-        ended = program.run([built, "run", "-", *options_in(page)], script.encode())
+        ended = program.run([built, "run", "-", *options_in(page)], script)
     pairs = zip(answer.rows, lines_of(report_of(ended))[len(before):], strict=True)
     wrong = (f"`{line}` has {said}, and the reply is {reply}" for (line, said), reply in pairs if said != reply)
     return next(wrong, "")
@@ -126,12 +126,7 @@ def checks_of(built: str, lesson: str) -> Iterator[tuple[str, str]]:
         yield name, str(fault)
 
 
-def all_checks(given: argparse.Namespace) -> Iterator[tuple[str, str]]:
+def checks(given: argparse.Namespace) -> Iterator[tuple[str, str]]:
     """The answers of all lessons, each with what is wrong with it, or nothing."""
     for lesson in LESSONS:
         yield from checks_of(given.program, lesson)
-
-
-def main() -> int:
-    """Runs the answers of all lessons; returns the exit status."""
-    return program.run_checks(__doc__, all_checks)

@@ -10,6 +10,7 @@ A4 and on Letter: no page but the last may be half empty.
 Each check prints a line; the status is 1 if one of them fails. It needs pandoc, as tools/release.py does.
 """
 
+import argparse
 import re
 import shutil
 import sys
@@ -97,8 +98,9 @@ def folder_fault(built: str) -> str:
     return "" if seconds < AT_ONCE else f"it takes {seconds:.0f} seconds to say so"
 
 
-def all_checks(built: str) -> Iterator[tuple[str, str]]:
+def checks(given: argparse.Namespace) -> Iterator[tuple[str, str]]:
     """All checks, each a name and what is wrong, or nothing."""
+    built = str(Path(given.program).resolve())
     yield "a folder that can't be made is named at once", folder_fault(built)
     yield "a worksheet has no reply", sheet_fault()
     yield "the pictures of all lessons fit a page", width_fault(Choice(tuple(LESSONS), "none"))
@@ -110,8 +112,3 @@ def all_checks(built: str) -> Iterator[tuple[str, str]]:
         for choice in (Choice(tuple(LESSONS), "with", False, size), Choice((2, 6, 7), "none", True, size)):
             name = f"no page is half empty: {'worksheet' if choice.worksheet else 'all lessons'}, {size}"
             yield name, program.Skipped(missing) if missing else fill_fault(choice)
-
-
-def main() -> int:
-    """Runs all checks."""
-    return program.run_checks(__doc__, lambda given: all_checks(str(Path(given.program).resolve())))

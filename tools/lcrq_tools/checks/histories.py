@@ -18,7 +18,7 @@ from pathlib import Path
 
 from lcrq_tools import history, program
 from lcrq_tools.checks import known_steps, random_scripts, replies
-from lcrq_tools.checks.random_scripts import Forms, drawing_words, text_of, written_script
+from lcrq_tools.checks.random_scripts import Forms, drawing_words, written_script
 from lcrq_tools.checks.replies import TRACE
 from lcrq_tools.draw.figure import Session
 from lcrq_tools.faults import Fault
@@ -86,7 +86,7 @@ def fresh_machine(chance: random.Random, built: str) -> Machine:
 
 def continued(machine: Machine, folder: Path, script: Sequence[str]) -> Machine:
     """A machine after a run of this script, whose trace is written into a folder."""
-    trace = replies.written([*machine.replay(), TRACE], text_of(script).encode("ascii"))[-1]
+    trace = replies.written([*machine.replay(), TRACE], program.script_of(script))[-1]
     return dataclasses.replace(machine, start=written_script(folder / "start.trace", [trace]))
 
 

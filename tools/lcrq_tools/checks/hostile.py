@@ -580,12 +580,7 @@ def device_checks(built: str) -> Checks:
     yield "a reader that leaves after each of 50 replies", leaving_fault(built, 50)
 
 
-def all_checks(given: argparse.Namespace) -> Checks:
+def checks(given: argparse.Namespace) -> Checks:
     """The checks, each a name and what is wrong, or nothing."""
     parts = (line_checks, trace_checks, growth_checks, word_checks, stream_checks, device_checks)
     return itertools.chain.from_iterable(checks(given.program) for checks in parts)
-
-
-def main() -> int:
-    """Prints each check; returns the exit status."""
-    return program.run_checks(__doc__, all_checks)

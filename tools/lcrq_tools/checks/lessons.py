@@ -25,6 +25,7 @@ Each row runs with each build of the program that is there: that of LLVM and, be
 The status is 1 if a page or report is another one. Only Python's standard library is used.
 """
 
+import argparse
 import functools
 import os
 import re
@@ -282,11 +283,11 @@ def session_fault(name: str, over_a_trace: bool, built: str) -> str:
 
 
 def rows() -> program.Rows:
-    """Each lesson, the guide and each session."""
+    """Each lesson, the guide and each session, with what finds what is wrong with a build."""
     pages = [(name, functools.partial(page_fault, name)) for name in (*LESSONS, GUIDE)]
     return pages + [(name, functools.partial(session_fault, name, is_over)) for name, is_over in SESSIONS.items()]
 
 
-def main() -> int:
-    """Prints each row; returns the exit status."""
-    return program.run_rows(__doc__, rows())
+def checks(given: argparse.Namespace) -> Iterator[tuple[str, str]]:
+    """Each row by each build of the program, with what is wrong, or nothing."""
+    return program.by_each_build(given.program, rows())

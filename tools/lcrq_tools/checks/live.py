@@ -21,6 +21,7 @@ Each row prints one line for each build of the program; the status is 1 if one o
 doesn't come in a minute is wrong. Linux and Python's standard library are all that is needed.
 """
 
+import argparse
 import functools
 import os
 import random
@@ -338,6 +339,6 @@ ROWS: program.Rows = [
 ]
 
 
-def main() -> int:
-    """Prints each row; returns the exit status."""
-    return program.run_rows(__doc__, ROWS)
+def checks(given: argparse.Namespace) -> Iterator[tuple[str, str]]:
+    """Each row by each build of the program, with what is wrong, or nothing."""
+    return program.by_each_build(given.program, ROWS)

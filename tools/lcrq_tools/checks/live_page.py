@@ -121,8 +121,3 @@ def checks(given: argparse.Namespace) -> Iterator[tuple[str, str]]:
     """The checks, each a name and what is wrong, or nothing."""
     for name, check in CHECKS.items():
         yield name, in_folder(check, given.program)
-
-
-def main() -> int:
-    """Prints each check; returns the exit status."""
-    return program.run_checks(__doc__, checks)

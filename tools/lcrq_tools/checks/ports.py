@@ -259,8 +259,3 @@ def checks(given: argparse.Namespace) -> Iterator[tuple[str, str]]:
                 yield from of_the_port(bench)
         except program.Broken as fault:
             yield "the port", str(fault)
-
-
-def main() -> int:
-    """Prints each check; returns the exit status."""
-    return program.run_checks(__doc__, checks)

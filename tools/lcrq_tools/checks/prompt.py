@@ -298,12 +298,7 @@ ROWS = (sentences, slips, editing, completion, leaving, helping, looking, going_
         beginning, piped, in_tmux)
 
 
-def all_checks(arguments: argparse.Namespace) -> Iterator[tuple[str, str]]:
+def checks(arguments: argparse.Namespace) -> Iterator[tuple[str, str]]:
     """All rows, each with what is wrong, or nothing."""
     for row in ROWS:
         yield (row.__doc__ or "").rstrip("."), tried(row, arguments.program)
-
-
-def main() -> int:
-    """Prints each row; returns the exit status."""
-    return program.run_checks(__doc__, all_checks)

@@ -6,6 +6,8 @@ import random
 from collections.abc import Mapping, Sequence
 from pathlib import Path
 
+from lcrq_tools.program import script_of
+
 Forms = Mapping[str, int]  # how often a script has a line of each form
 
 NAMES = ("a", "b", "c")  # of bookmarks
@@ -52,14 +54,9 @@ def crowded_script(chance: random.Random) -> list[str]:
 # ---- Scripts in files ----------------------------------------------------------------------------
 
 
-def text_of(script: Sequence[str]) -> str:
-    """The text of a script."""
-    return "".join(f"{line}\n" for line in script)
-
-
 def written_script(path: Path, script: Sequence[str]) -> str:
     """Writes a script; returns the name of its file."""
-    path.write_text(text_of(script), encoding="ascii")
+    path.write_bytes(script_of(script))
     return str(path)
 
 

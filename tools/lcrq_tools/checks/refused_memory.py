@@ -38,11 +38,11 @@ from pathlib import Path
 from typing import NamedTuple
 
 from lcrq_tools import manual, program
-from lcrq_tools.checks.answers import actor_at, differs, file_of, refusal, report_of, script_of, session_of, start_of
+from lcrq_tools.checks.answers import actor_at, differs, file_of, refusal, report_of, session_of, start_of
 from lcrq_tools.faults import Parser
 from lcrq_tools.options import add_program
 from lcrq_tools.places import required
-from lcrq_tools.program import run
+from lcrq_tools.program import run, script_of
 
 LAST = 2**63  # the number of an allocation that no program reaches
 BLOCK = 64  # runs that are begun at once
@@ -266,7 +266,7 @@ SESSION = session_of(f"[{STEP},{STEP},{STEP}]", MARKS, START, f"[{STEP}]")
 def asked_behind(lines: Iterable[str]) -> bytes:
     """The text of these lines with all queries after each that may take memory."""
     asked = ([line, *(QUERIES if line.split(" ")[0].encode() in MAY_TAKE else [])] for line in lines)
-    return script_of([*itertools.chain.from_iterable(asked), *QUERIES]).encode()
+    return script_of([*itertools.chain.from_iterable(asked), *QUERIES])
 
 
 def command_lines(folder: Path) -> list[CommandLine]:
@@ -278,10 +278,10 @@ def command_lines(folder: Path) -> list[CommandLine]:
         (folder / name).write_bytes(text)
     file, trace, session, first, second = (str(folder / name) for name in texts)
     rings = ("run", "-", "--ring", "2")
-    few = script_of(["len", "go 1", "undo", "mark a", "len"]).encode()
-    marked = script_of(RACE[:9] + ["mark a", "back 2", "mark b"]).encode()
+    few = script_of(["len", "go 1", "undo", "mark a", "len"])
+    marked = script_of(RACE[:9] + ["mark a", "back 2", "mark b"])
     moves = ["len", "marks", "markat 2", "redo", "deq 1", "same a b", "goto b", "undo", "mark c", "goto a", "go 1"]
-    moved = script_of([*moves, "len", "show whole 1.0"]).encode()
+    moved = script_of([*moves, "len", "show whole 1.0"])
     return [
         CommandLine("run", rings, script, fault_in_run),
         CommandLine(
@@ -344,9 +344,9 @@ def undos_part(given: argparse.Namespace, refuser: Refuser) -> Outcomes:
     """Undos, redos and queries with all allocations refused from the line before them on: it
     compares two bookmarks, which needs some."""
     words = [given.program, "run", "-", "--ring", "2"]
-    before = script_of(APART + RACE).encode()
+    before = script_of(APART + RACE)
     taken = refuser.run(words, LAST, given=before).calls
-    later = script_of([*UNDOS, *QUERIES, "drop x", "marks", "markat 1", "len"]).encode()
+    later = script_of([*UNDOS, *QUERIES, "drop x", "marks", "markat 1", "len"])
     ended = refuser.run(words, taken + 1, given=before + b"same x y\n" + later)
     wanted = usual(given.program, tuple(words[1:]), before + later).splitlines()
     first = len(before.splitlines())
@@ -380,7 +380,7 @@ def long_script() -> bytes:
         if call % 200 == 100:
             lines += [f"mark a{call}", "back 500", "undo", "enq 2 5", f"mark b{call}"]
             lines += [f"same a{call} b{call}", f"goto a{call}", *QUERIES]
-    return script_of(lines + QUERIES).encode()
+    return script_of(lines + QUERIES)
 
 
 def limits_part(given: argparse.Namespace, refuser: Refuser) -> Outcomes:

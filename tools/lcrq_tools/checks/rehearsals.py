@@ -14,6 +14,7 @@ Each row runs with each build of the program that is there: that of LLVM and, be
 compiler. The status is 1 if a row is another one. Only Python's standard library is used.
 """
 
+import argparse
 import functools
 import itertools
 import re
@@ -22,6 +23,7 @@ import shutil
 import signal
 import tempfile
 import textwrap
+from collections.abc import Iterator
 from pathlib import Path
 from typing import NamedTuple
 
@@ -130,6 +132,6 @@ def rows() -> program.Rows:
     return [(name, functools.partial(row_fault, row)) for name, row in names]
 
 
-def main() -> int:
-    """Prints each row; returns the exit status."""
-    return program.run_rows(__doc__, rows())
+def checks(given: argparse.Namespace) -> Iterator[tuple[str, str]]:
+    """Each row by each build of the program, with what is wrong, or nothing."""
+    return program.by_each_build(given.program, rows())

@@ -16,6 +16,7 @@ does. Where man, column, rlwrap, make, jsonschema or a printer of PDF isn't inst
 needs it says `skipped`.
 """
 
+import argparse
 import importlib.util
 import os
 import re
@@ -481,8 +482,9 @@ def refuses(words: list[str], reason: str, built: str, env: Mapping[str, str] | 
     return "" if is_right else f"status {ended.status}: {last[0]}"
 
 
-def all_checks(built: str) -> Checks:
+def checks(given: argparse.Namespace) -> Checks:
     """All checks, each a name and what is wrong, or nothing."""
+    built = str(Path(given.program).resolve())
     yield "what the commands of the pages call is installed", program.Skipped(program.missing_of(PASSED_OVER))
     for words, runs in ARCHIVES:
         yield from check_archive(words, runs, built)
@@ -494,8 +496,3 @@ def all_checks(built: str) -> Checks:
         yield "--pdf without a printer is refused", refuses(["--pdf"], "neither is there", built, alone)
     has_printer = any(map(shutil.which, ("weasyprint", *release.BROWSERS)))
     yield "--pdf", is_printed(built) if has_printer else program.Skipped("chromium or weasyprint")
-
-
-def main() -> int:
-    """Runs all checks."""
-    return program.run_checks(__doc__, lambda given: all_checks(str(Path(given.program).resolve())))

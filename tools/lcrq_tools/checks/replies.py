@@ -56,7 +56,7 @@ def loaded(built: str, trace: Trace) -> Iterator[Ask]:
         json.dump(trace, file)
         file.flush()
         words = [built, "load", "--", file.name]
-        yield lambda lines: written(words, "".join(f"{line}\n" for line in lines).encode("ascii"))
+        yield lambda lines: written(words, program.script_of(lines))
 
 
 # ---- A moment ------------------------------------------------------------------------------------

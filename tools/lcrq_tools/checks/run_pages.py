@@ -257,8 +257,3 @@ def checks(given: argparse.Namespace) -> Iterator[tuple[str, str]]:
         yield f"the pages of {count} {name}", pictures.random_faults(given, count, run_of, random_fault)
     yield "a run of more than 400 lines", long_fault(given)
     yield "the contrast of letters", contrast_fault()
-
-
-def main() -> int:
-    """Prints each check; returns the exit status."""
-    return program.run_checks(__doc__, checks)

@@ -21,7 +21,7 @@ from dataclasses import dataclass
 from lcrq_tools import model, program
 from lcrq_tools.options import start_words
 from lcrq_tools.program import EXAMPLES, TOP, Driven
-from lcrq_tools.records import Cell, Place, Step, Tail, content_of
+from lcrq_tools.records import Cell, Step, Tail, content_of
 from lcrq_tools.speak.sentences import IDLE, POINTS, SENTENCES, Seen
 from lcrq_tools.speak.teller import Spoken, Teller
 
@@ -221,7 +221,7 @@ def wrong_of(point: str, counts: collections.Counter[str], faults: dict[str, str
     return faults.get(point, "") or (f"no step came to {', '.join(missing)}" if missing else "")
 
 
-def all_checks(arguments: argparse.Namespace) -> Iterator[tuple[str, str]]:
+def checks(arguments: argparse.Namespace) -> Iterator[tuple[str, str]]:
     """A check for each control point: a name and what is wrong, or nothing."""
     counts: collections.Counter[str] = collections.Counter()
     faults: dict[str, str] = {}
@@ -238,8 +238,3 @@ def all_checks(arguments: argparse.Namespace) -> Iterator[tuple[str, str]]:
     known = set(POINTS) == set(table)
     fault = "" if known else "they have other control points than the table"
     yield f"{len(SENTENCES)} sentences, {sum(counts.values())} steps", fault
-
-
-def main() -> int:
-    """Prints each check; returns the exit status."""
-    return program.run_checks(__doc__, all_checks)

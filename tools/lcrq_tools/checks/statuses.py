@@ -230,7 +230,7 @@ def example_fault(tool: str, built: str) -> str:
 # ---- All -----------------------------------------------------------------------------------------
 
 
-def all_checks(given: argparse.Namespace) -> Iterator[tuple[str, str]]:
+def checks(given: argparse.Namespace) -> Iterator[tuple[str, str]]:
     """The checks, each a name and what is wrong, or nothing."""
     built = given.program
     for name, words, script, answer in ROWS:
@@ -249,8 +249,3 @@ def all_checks(given: argparse.Namespace) -> Iterator[tuple[str, str]]:
     yield "the version of what pip installs", version_fault(built)
     for tool in SHOWN:
         yield f"the example of {tool}.py --help", example_fault(tool, str(Path(built).absolute()))
-
-
-def main() -> int:
-    """Prints each check; returns the exit status."""
-    return program.run_checks(__doc__, all_checks)

@@ -14,15 +14,15 @@ Each seed prints one line for each build of the program; the status is 1 if a vi
 `--seed S --count 1` makes the scripts of seed S again; the viewers' calls may then have another order.
 """
 
+import functools
 import random
 import tempfile
-from collections.abc import Iterator
 from dataclasses import dataclass
 from pathlib import Path
 
 from lcrq_tools import history, program
 from lcrq_tools.checks import histories, replies
-from lcrq_tools.checks.random_scripts import random_script, text_of, written_script
+from lcrq_tools.checks.random_scripts import random_script, written_script
 from lcrq_tools.checks.replies import TRACE
 from lcrq_tools.checks.histories import ANY, HISTORY, calls_of, difference
 from lcrq_tools.faults import Parser
@@ -76,7 +76,7 @@ def view_fault(view: View, options: list[str]) -> str:
     lines = replies.written([*view.words, *options])
     asked = view.one_by_one()
     if HISTORY in options:
-        asked = history.history_of("the view", text_of(lines))
+        asked = history.history_of("the view", program.script_of(lines, "latin-1").decode("latin-1"))
         faults = (histories.calls_fault(viewer, script, asked) for viewer, script in enumerate(view.scripts, 1))
         if fault := next(filter(None, faults), ""):
             return fault
@@ -101,13 +101,6 @@ def seed_fault(seed: int, built: str) -> str:
         return next((f"{count} {' '.join(words) or 'no option'}, {fault}" for words, fault in faults if fault), "")
 
 
-def all_checks(built: str, seeds: range) -> Iterator[tuple[str, str]]:
-    """Each seed by each build of the program, with what is wrong, or nothing."""
-    for build in program.builds_of(built):
-        for seed in seeds:
-            yield f"seed {seed}, by {build.name}", program.tried(seed_fault, seed, str(build))
-
-
 def main() -> int:
     """Prints each seed; returns the exit status."""
     parser = Parser(__doc__, "--seed 7 --count 1")
@@ -115,4 +108,6 @@ def main() -> int:
     parser.add_argument("--seed", type=int, default=1, metavar="S", help="the seed of the first view (1)")
     parser.add_argument("--count", type=int, default=COUNT, metavar="N", help=f"how many seeds ({COUNT})")
     given = parser.parse_args()
-    return program.print_checks(all_checks(given.program, range(given.seed, given.seed + given.count)))
+    seeds = range(given.seed, given.seed + given.count)
+    rows = [(f"seed {seed}", functools.partial(seed_fault, seed)) for seed in seeds]
+    return program.print_checks(program.by_each_build(given.program, rows))

@@ -33,10 +33,10 @@ from pathlib import Path
 from lcrq_tools.draw.askers import viewers_after
 from lcrq_tools.draw.drawing import draw
 from lcrq_tools.draw.figure import Session, in_order, kind_of, script_name, write_drawn
-from lcrq_tools.draw.lanes import Call, Picture, Row, actor_lane, actor_of, lanes_at, lanes_of, order_of, row_of
+from lcrq_tools.draw.lanes import Call, Picture, Row, actor_lane, actor_of, lanes_at, order_of, row_of
 from lcrq_tools.faults import Fault
 from lcrq_tools.options import number_above_0, run_parser, settled
-from lcrq_tools.records import Actor, Counts, Place, Refusal, Step, content_of, read_reply, stand_of
+from lcrq_tools.records import Counts, Place, Refusal, Step, content_of, read_reply, stand_of
 
 MOST_ROWS = 200
 

@@ -4,11 +4,11 @@ The steps around the border are listed, and the moments of the last lines. Where
 have become many, the data begin anew with that line.
 """
 
-from collections.abc import Collection, Sequence
+from collections.abc import Sequence
 from contextlib import AbstractContextManager
 from dataclasses import replace
 
-from lcrq_tools.draw.lanes import Row, Widths
+from lcrq_tools.draw.lanes import Widths
 from lcrq_tools.page import page_data, page_lanes, page_moments, slides
 from lcrq_tools.page.mirror import Mirror, State
 from lcrq_tools.page.page_data import Data

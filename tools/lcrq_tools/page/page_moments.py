@@ -5,7 +5,6 @@ the one before it.
 """
 
 import itertools
-import re
 from collections.abc import Iterable, Mapping
 
 from lcrq_tools import model

@@ -25,7 +25,7 @@ from pathlib import Path
 from lcrq_tools import entry, manual
 from lcrq_tools.faults import FAULTS, Fault, Parser, text_of
 from lcrq_tools.options import add_program, add_script, add_world, settled, start_words
-from lcrq_tools.program import Driven, bytes_of, lines_of as lines_of_text, run
+from lcrq_tools.program import Driven, bytes_of, lines_of as lines_of_text, run, script_of
 from lcrq_tools.records import Counts
 from lcrq_tools.speak import board, completion, forms
 from lcrq_tools.speak.teller import Spoken, Teller
@@ -72,7 +72,7 @@ class Session:
 
     def script(self) -> bytes:
         """All lines so far."""
-        return "".join(f"{line}\n" for line in self.lines).encode("ascii")
+        return script_of(self.lines)
 
     def twin(self) -> Driven:
         """Another run of the same lines."""

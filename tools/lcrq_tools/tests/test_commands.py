@@ -24,13 +24,13 @@ TOOLS = TOP / "tools"
 RUNNERS = {"check.py": "checks", "bench.py": "bench"}
 
 
-def mains() -> dict[str, Callable[..., int]]:
-    """The `main` of each script, of each check and of each measurement, by the words that call it."""
+def all_modules() -> dict[str, str]:
+    """The module of each script, of each check and of each measurement, by the words that call it."""
     modules = {f"{name}.py": module for name, module in entry.TOOLS.items()}
     for runner in RUNNERS:
         folder = modules.pop(runner)
         modules |= {f"{runner} {name}": module for name, module in entry.tools_in(folder).items()}
-    return {words: importlib.import_module(f"lcrq_tools.{module}").main for words, module in modules.items()}
+    return modules
 
 
 def example_of(text: str) -> list[str]:
@@ -53,8 +53,9 @@ class Helps(unittest.TestCase):
     """What --help says."""
 
     def test_each_ends_with_an_example_that_can_be_read(self) -> None:
-        for words, main in mains().items():
+        for words, module in all_modules().items():
             with self.subTest(words):
+                main = entry.main_of(module)
                 status, output, errors = told(main, words, "--help")
                 self.assertEqual((status, errors), (0, ""))
                 example, called = example_of(output), words.split(" ")
@@ -62,10 +63,11 @@ class Helps(unittest.TestCase):
                 self.check_reads(main, words, example[len(called):])
 
     def test_each_says_what_the_tool_makes(self) -> None:
-        for words, main in mains().items():
+        for words, module in all_modules().items():
             with self.subTest(words):
-                about = (sys.modules[main.__module__].__doc__ or "").partition("\n\n")[0]
-                self.assertIn(" ".join(about.split()), " ".join(told(main, words, "--help")[1].split()))
+                about = (importlib.import_module(f"lcrq_tools.{module}").__doc__ or "").partition("\n\n")[0]
+                said = told(entry.main_of(module), words, "--help")[1]
+                self.assertIn(" ".join(about.split()), " ".join(said.split()))
 
     def check_reads(self, main: Callable[..., int], words: str, example: list[str]) -> None:
         """That the command line of an example has no fault."""
@@ -82,9 +84,9 @@ class Faults(unittest.TestCase):
         self.assertEqual(told(main, tool, *words), (status, "", f"{tool}: {said}\n"))
 
     def test_an_option_that_is_not_there(self) -> None:
-        for words, main in mains().items():
+        for words, module in all_modules().items():
             with self.subTest(words), with_program():
-                status, output, errors = told(main, words, "--nowhere")
+                status, output, errors = told(entry.main_of(module), words, "--nowhere")
                 self.assertEqual((status, output), (2 if words in ("calls.py", "conform.py") else 1, ""))
                 self.assertRegex(errors, rf"^{words}: .*; --help shows what may be given\n\Z")
 

@@ -197,16 +197,21 @@ class Builds(unittest.TestCase):
     def test_both_builds_run_each_row(self) -> None:
         with tempfile.TemporaryDirectory() as folder:
             built = Path(folder) / "lcrqdb"
-            words, rows = ["--program", str(built)], [("a", fault_of), ("b", fault_of)]
+            rows, words = [("a", fault_of), ("b", fault_of)], ["check.py", "--program", str(built)]
+
+            def run() -> int:
+                return program.run_checks(None, lambda given: program.by_each_build(given.program, rows))
+
             built.symlink_to(NO_PROGRAM)
-            status, output, _ = told(lambda: program.run_rows(None, rows), "check.py", *words)
-            wanted = f"ok    a, by lcrqdb\nok    b, by lcrqdb\n2 right, 0 wrong\n2 rows, each by {built}\n"
-            self.assertEqual((status, output), (0, wanted))
+            status, output, _ = told(run, *words)
+            wanted = ["ok    a, by lcrqdb", "ok    b, by lcrqdb", f"ok    2 rows, each by {built}", "3 right, 0 wrong"]
+            self.assertEqual((status, output.splitlines()), (0, wanted))
             other = Path(f"{built}.by-rattle")
             other.symlink_to(NO_PROGRAM)
-            status, output, _ = told(lambda: program.run_rows(None, rows), "check.py", *words)
+            status, output, _ = told(run, *words)
             self.assertEqual((status, output.splitlines()[2]), (1, "WRONG a, by lcrqdb.by-rattle: it differs"))
-            self.assertEqual(output.splitlines()[4:], ["2 right, 2 wrong", f"2 rows, each by {built} and {other}"])
+            said = [f"ok    2 rows, each by {built} and {other}", "3 right, 2 wrong"]
+            self.assertEqual(output.splitlines()[4:], said)
 
     def test_what_can_not_be_read_or_run_is_wrong(self) -> None:
         def breaks(what: str) -> str:
