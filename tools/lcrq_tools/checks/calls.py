@@ -37,20 +37,50 @@ FULL = ("13-a-start-of-ones-own", "15-why-a-dequeue-looks-twice-1", "15-why-a-de
 ALONE = ("session", "manual-1", "manual-2", "manual-3", "model", "moment", "two-closers", "guide-1", "guide-6")
 LOST = "the queue is found empty while 201 is surely there"
 
-# Calls of a log, and what is said of them: each is actor, call and reply, one after the other or at once.
-BY_HAND = [
-    ("taken twice", "1 enq 7|1 enqueued|1 deq|1 value 7|2 deq|2 value 7", 1, "7 is taken 2 times, and put 1 time"),
-    ("taken before it is put", "1 deq|1 value 7|2 enq 7|2 enqueued", 1, "7 is taken before it is put"),
-    ("never put", "1 deq|1 value 7", 1, "7 is taken, and never put"),
+# Calls of a log by hand, each an actor, its call or its reply; what is said of them; and the begins of the calls in their
+# order, or of those that have none. Of two queues, and of what can't be read, no begins are given.
+ByHand = tuple[str, str, int, str, tuple[int, ...]]
+CAN = "a FIFO queue can"
+BY_HAND: list[ByHand] = [
+    (
+        "taken twice", "1 enq 7|1 enqueued|1 deq|1 value 7|2 deq|2 value 7", 1,
+        "7 is taken 2 times, and put 1 time", (1, 3, 5),
+    ),
+    (
+        "taken twice, among others", "1 enq 7|1 enqueued|1 deq|1 value 7|2 deq|2 value 7|2 enq 8|2 enqueued", 1,
+        "7 is taken 2 times, and put 1 time", (1, 3, 5),
+    ),
+    ("taken before it is put", "1 deq|1 value 7|2 enq 7|2 enqueued", 1, "7 is taken before it is put", (1, 3)),
+    ("never put", "1 deq|1 value 7", 1, "7 is taken, and never put", (1,)),
     (
         "a planted swap", "1 enq 7|1 enqueued|1 enq 8|1 enqueued|2 deq|2 value 8|2 deq|2 value 7", 1,
-        "8 overtakes 7, which is put before it and is taken after 8",
+        "8 overtakes 7, which is put before it and is taken after 8", (1, 3, 5, 7),
     ),
-    ("put at once", "1 enq 7|2 enq 8|1 enqueued|2 enqueued|1 deq|1 value 8|1 deq|1 value 7", 0, "a FIFO queue can"),
-    ("the array's own", "1 enq 7|1 enqueued|2 adeq|2 empty|2 deq|2 value 7", 0, "the array queue, 1 call: a FIFO"),
-    ("pending", "1 enq 7|1 enqueued|1 enq 8|1 enqueued|2 deq|3 deq|3 value 8", 0, "a FIFO queue can"),
-    ("no reply", "1 deq|1 deq", 2, "has no reply"),
-    ("another reply", "1 deq|1 enqueued", 2, "is no reply to `deq`"),
+    (
+        "overtaken and left", "1 enq 7|1 enqueued|1 enq 8|1 enqueued|2 deq|2 value 8", 1,
+        "8 overtakes 7, which is put before it and is never taken", (1, 3, 5),
+    ),
+    (
+        "empty, and one is there", "1 enq 7|1 enqueued|2 deq|2 empty", 1,
+        "the queue is found empty while 7 is surely there", (1, 3),
+    ),
+    (
+        "empty, and two in turn", "1 enq 7|1 enqueued|2 deq|1 enq 8|1 enqueued|1 deq|1 value 7|2 empty", 1,
+        "the queue is found empty, and at each moment of that call one of 7, 8 is surely there", (1, 3, 4, 6),
+    ),
+    ("put at once", "1 enq 7|2 enq 8|1 enqueued|2 enqueued|1 deq|1 value 8|1 deq|1 value 7", 0, CAN, (2, 1, 5, 7)),
+    ("put at once, one left", "1 enq 7|2 enq 8|1 enqueued|2 enqueued|1 deq|1 value 8", 0, CAN, (2, 1, 5)),
+    ("empty between two", "1 enq 7|1 enqueued|3 deq|1 deq|1 value 7|1 enq 8|1 enqueued|3 empty", 0, CAN, (1, 4, 3, 6)),
+    ("put twice", "1 enq 7|1 enqueued|1 enq 7|1 enqueued|2 deq|2 value 7|2 deq|2 value 7", 0, CAN, (1, 3, 5, 7)),
+    ("put twice, once pending", "1 enq 7|3 deq|3 value 7|2 enq 7|2 enqueued|1 enqueued", 0, CAN, (1, 2, 4)),
+    ("the array's own", "1 enq 7|1 enqueued|2 adeq|2 empty|2 deq|2 value 7", 0, "the array queue, 1 call: a FIFO", ()),
+    ("pending", "1 enq 7|1 enqueued|1 enq 8|1 enqueued|2 deq|3 deq|3 value 8", 0, CAN, (1, 3, 5, 6)),
+    ("pending, and taken", "1 enq 7|2 deq|2 value 7", 0, CAN, (1, 2)),
+    ("pending, and left out", "1 enq 7|2 deq|2 empty", 0, CAN, (2,)),
+    ("no reply", "1 deq|1 deq", 2, "has no reply", ()),
+    ("another reply", "1 deq|1 enqueued", 2, "is no reply to `deq`", ()),
+    ("no call", "1 enqueued", 2, "has begun no call", ()),
+    ("no record", "1 WHAT", 2, "no call, label, place or reply", ()),
 ]
 
 
@@ -192,5 +222,5 @@ def checks(given: argparse.Namespace) -> Iterator[tuple[str, str]]:
         row = (2, "the start has values") if lesson.name in FULL else (0, "a FIFO queue can have answered so")
         yield f"the calls of {lesson.name}", said_fault(given, [str(EXAMPLES / f"{lesson.name}.script"), *world], *row)
     yield "a log that loses a value", said_fault(given, [str(EXAMPLES / "port" / "unsafe-ignored.log")], 1, LOST)
-    for name, calls, status, wanted in BY_HAND:
-        yield f"a log by hand: {name}", hand_fault(given, calls, status, wanted)
+    for name, text, status, wanted, _ in BY_HAND:
+        yield f"a log by hand: {name}", hand_fault(given, text, status, wanted)

@@ -2,7 +2,6 @@
 
 import tempfile
 import unittest
-from collections.abc import Sequence
 from pathlib import Path
 from xml.etree import ElementTree
 
@@ -11,6 +10,7 @@ from lcrq_tools.calls import intervals, orders, whiteboard
 from lcrq_tools.calls.culprits import culprits_of
 from lcrq_tools.calls.intervals import Call, calls_of_steps
 from lcrq_tools.calls.search import TooMany, searched
+from lcrq_tools.checks.calls import BY_HAND
 from lcrq_tools.records import Step
 from lcrq_tools.tests.replay_stub import records_of
 from lcrq_tools.tests.stubs import NO_PROGRAM, told
@@ -65,10 +65,7 @@ class Intervals(unittest.TestCase):
         self.assertEqual([(call.actor, call.begin, call.end) for call in calls], [(2, 1, 2), (1, 0, 4), (2, 3, 5)])
 
     def test_faults_have_status_2(self) -> None:
-        for log, said in (
-            ("1 deq|1 deq", "has no reply"), ("1 deq|1 enqueued", "is no reply to `deq`"),
-            ("1 enqueued", "has begun no call"), ("1 WHAT", "no call, label, place or reply"),
-        ):
+        for _, log, _, said, _ in (row for row in BY_HAND if row[2] == 2):
             status, output, errors = told_of(log, "--fifo")
             self.assertEqual((status, output, errors.count("\n")), (2, "", 1), errors)
             self.assertIn(said, errors)
@@ -78,53 +75,14 @@ class Intervals(unittest.TestCase):
 class Orders(unittest.TestCase):
     """Whether calls have an order."""
 
-    def check_order(self, text: str, order: Sequence[int]) -> None:
-        """That calls have this order, by their begins."""
-        calls = calls_in(text)
-        answer = orders.answer_of(calls, 1000)
-        self.assertTrue(answer.order is not None and orders.is_order(answer.order, calls))
-        self.assertEqual([call.begin for call in answer.order or ()], [*order])
-
-    def check_none(self, text: str, count: int, why: str) -> None:
-        """That so many calls have no order, and why."""
-        calls = calls_in(text)
-        self.assertTrue(orders.answer_of(calls, 1000).is_refused())
-        found = culprits_of(calls, 1000)
-        self.assertEqual((len(found.calls), found.why), (count, why))
-
-    def test_calls_at_once_may_change_places(self) -> None:
-        self.check_order("1 enq 7|2 enq 8|1 enqueued|2 enqueued|1 deq|1 value 8", (2, 1, 5))
-
-    def test_the_queue_may_be_empty_between_two_values(self) -> None:
-        self.check_order("1 enq 7|1 enqueued|3 deq|1 deq|1 value 7|1 enq 8|1 enqueued|3 empty", (1, 4, 3, 6))
-
-    def test_a_pending_call_may_have_taken_effect(self) -> None:
-        self.check_order("1 enq 7|2 deq|2 value 7", (1, 2))
-        self.check_order("1 enq 7|1 enqueued|1 enq 8|1 enqueued|2 deq|3 deq|3 value 8", (1, 3, 5, 6))
-
-    def test_a_pending_call_that_took_nothing_is_left_out(self) -> None:
-        self.check_order("1 enq 7|2 deq|2 empty", (2,))
-
-    def test_values_that_are_put_twice(self) -> None:
-        self.check_order("1 enq 7|1 enqueued|1 enq 7|1 enqueued|2 deq|2 value 7|2 deq|2 value 7", (1, 3, 5, 7))
-
-    def test_a_value_is_taken_twice(self) -> None:
-        text = "1 enq 7|1 enqueued|1 deq|1 value 7|2 deq|2 value 7|2 enq 8|2 enqueued"
-        self.check_none(text, 3, "7 is taken 2 times, and put 1 time")
-
-    def test_a_value_overtakes_another(self) -> None:
-        text = "1 enq 7|1 enqueued|1 enq 8|1 enqueued|2 deq|2 value 8"
-        self.check_none(text, 3, "8 overtakes 7, which is put before it and is never taken")
-        text += "|2 deq|2 value 7"
-        self.check_none(text, 4, "8 overtakes 7, which is put before it and is taken after 8")
-
-    def test_the_queue_is_empty_while_a_value_is_there(self) -> None:
-        self.check_none("1 enq 7|1 enqueued|2 deq|2 empty", 2, "the queue is found empty while 7 is surely there")
-
-    def test_two_values_are_there_in_turn(self) -> None:
-        text = "1 enq 7|1 enqueued|2 deq|1 enq 8|1 enqueued|1 deq|1 value 7|2 empty"
-        why = "the queue is found empty, and at each moment of that call one of 7, 8 is surely there"
-        self.check_none(text, 4, why)
+    def test_each_log_by_hand_has_its_order_or_the_calls_that_have_none(self) -> None:
+        for name, text, status, said, begins in (row for row in BY_HAND if row[-1]):
+            with self.subTest(name):
+                calls = calls_in(text)
+                order, found = orders.answer_of(calls, 1000).order, culprits_of(calls, 1000)
+                self.assertEqual(order is None, status == 1)
+                self.assertEqual(tuple(call.begin for call in order or found.calls), begins)
+                self.assertTrue(found.why == said if order is None else orders.is_order(order, calls))
 
     def test_a_limit_is_said(self) -> None:
         text = "1 enq 7|3 deq|3 value 7|2 enq 7|2 enqueued|1 enqueued"
@@ -132,7 +90,6 @@ class Orders(unittest.TestCase):
         status, output, _ = told_of(text, "--fifo", "--tries", "1")
         self.assertEqual(status, 3)
         self.assertIn("not decided after 1 configuration", output)
-        self.check_order(text, (1, 2, 4))
 
 
 class Pictures(unittest.TestCase):

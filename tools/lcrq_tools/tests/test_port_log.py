@@ -1,10 +1,12 @@
 """The log of a port: the grammar of its records, the order of several logs, and names."""
 
+import re
 import tempfile
 import unittest
 from pathlib import Path
 
 from lcrq_tools import model
+from lcrq_tools.checks.changed_logs import UNREADABLE
 from lcrq_tools.port import port_log
 from lcrq_tools.port.port_log import Names, Record, Reuse, Unreadable
 from lcrq_tools.port.port_stream import Logs, read_logs
@@ -53,29 +55,6 @@ class Records(unittest.TestCase):
         self.assertEqual((record("9 1 value 7").kind, record("9 1 value 7").reply), ("reply", ("value", "7")))
         self.assertEqual(record("9 1 empty").reply, ("empty",))
 
-    def test_a_wrong_record_is_refused(self) -> None:
-        number = 2**64
-        for text, said in (
-            ("1 T0", "a record is a stamp"),
-            ("x T0 deq", "a record is a stamp"),
-            ("1 T0 enq", "a call is enq X, deq"),
-            (f"1 T0 enq {number}", "with X up to 18446744073709551615"),
-            ("1 T0 deq 4", "a call is enq X, deq"),
-            ("1 T0 starve maybe", "the choice is yes or no"),
-            ("1 T0 starve", "the choice is yes or no"),
-            ("1 T0 E9 1; hh 3", "^`hh 3` is no reply, and an actor has no word hh$"),
-            ("1 T0 E9 1; t 3 hh 3", "an actor has no word hh$"),
-            ("1 T0 E9 1; value v", "an actor has no word value$"),
-            ("\ufeff1 T0 deq", "a byte-order mark comes before it"),
-            ("\ufffd\ufffd1\0 \0", "a byte-order mark comes before it"),
-            (f"{'1' * 5000} T0 deq", "^a word of it has 5,000 letters, and may have 1,000$"),
-            (f"1 T0 E4 open {'1' * 5000}", "^a word of it has 5,000 letters"),
-            ("1 T0 E99 cell 0.0 1", "no call, label, place or reply"),
-            ("1 T0 tail 0.0; read; open 3; t 3 closed", "should be words of an actor, each with its value"),
-        ):
-            with self.subTest(text), self.assertRaisesRegex(Unreadable, said):
-                record(text)
-
     def test_a_number_is_written_as_the_program_writes_it(self) -> None:
         words = ["0x1F", "007", "18446744073709551615", "18446744073709551616", "-1", "1_0", ""]
         self.assertEqual([port_log.number_of(it) for it in words], ["31", "7", "18446744073709551615", "", "", "", ""])
@@ -89,7 +68,7 @@ class Merged(unittest.TestCase):
         with tempfile.TemporaryDirectory() as folder:
             names = [str(Path(folder) / f"{at}.log") for at in range(len(logs))]
             for name, log in zip(names, logs):
-                Path(name).write_text(log, encoding="ascii")
+                Path(name).write_text(log, encoding="utf-8")
             return read_logs(names)
 
     def test_logs_are_merged_by_stamp(self) -> None:
@@ -104,6 +83,11 @@ class Merged(unittest.TestCase):
     def test_a_fault_names_file_line_and_text(self) -> None:
         with self.assertRaisesRegex(Unreadable, r"0\.log:2: `2 a nowhere 1`: no call, label, place or reply"):
             self.read("1 a deq\n2 a nowhere 1\n")
+
+    def test_a_wrong_record_is_refused(self) -> None:
+        for log, said in UNREADABLE:
+            with self.subTest(log[:40]), self.assertRaisesRegex(Unreadable, re.escape(said.removeprefix("a.log"))):
+                self.read(f"{log}\n")
 
     def test_two_actors_may_share_a_stamp(self) -> None:
         logs = self.read("1 1 deq\n1 1 Q1\n", "1 2 deq\n")
