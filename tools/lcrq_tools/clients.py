@@ -190,11 +190,6 @@ def awaited(what: str, look: Callable[[], Found | None]) -> Found:
     return found
 
 
-def bytes_in(reading: int) -> int:
-    """How many bytes a pipe holds."""
-    return int.from_bytes(fcntl.ioctl(reading, termios.FIONREAD, bytes(4)), sys.byteorder)
-
-
 def ask_until_full(client: Client) -> None:
     """Lets a client, which has asked nothing, ask in a hurry and read nothing, until the pipe of its replies is all but
     full. So its viewer stops, if more lines are there."""
@@ -204,7 +199,8 @@ def ask_until_full(client: Client) -> None:
 
     def little_room() -> int | None:
         client.push()
-        room = size - bytes_in(client.reading)
+        held = fcntl.ioctl(client.reading, termios.FIONREAD, bytes(4))
+        room = size - int.from_bytes(held, sys.byteorder)
         return room if room < MOST_REPLY else None
 
     awaited(f"{client.name} doesn't fill a pipe of {size} bytes", little_room)

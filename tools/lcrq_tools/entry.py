@@ -86,11 +86,6 @@ def main_of(module: str) -> Callable[[], int]:
     return main or functools.partial(program.run_checks, found.__doc__, found.checks)
 
 
-def tools_here() -> dict[str, str]:
-    """The tools that are there, by their names."""
-    return {name: module for name, module in TOOLS.items() if file_of(module).exists()}
-
-
 # ---- Runs -----------------------------------------------------------------------------------------
 
 
@@ -131,7 +126,8 @@ def lcrq() -> int:
     words = sys.argv[1:]
     if path := script_around(words):
         os.execv(sys.executable, [sys.executable, str(path), *words[1:]])
-    return status_of(choose, "lcrq", tools_here(), words)
+    tools_here = {name: module for name, module in TOOLS.items() if file_of(module).exists()}
+    return status_of(choose, "lcrq", tools_here, words)
 
 
 def script(name: str) -> NoReturn:

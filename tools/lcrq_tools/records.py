@@ -25,11 +25,6 @@ def number_or_none(word: str) -> int | None:
     return None if word == "none" else int(word)
 
 
-def or_none(number: int | None) -> str:
-    """How a number is spelled that may be missing."""
-    return "none" if number is None else str(number)
-
-
 # ---- Places and contents --------------------------------------------------------------------------
 
 
@@ -99,7 +94,7 @@ class Cell:
 
     def value_half(self) -> str:
         """What its value half shows."""
-        return or_none(self.value)
+        return "none" if self.value is None else str(self.value)
 
 
 @dataclass(frozen=True)

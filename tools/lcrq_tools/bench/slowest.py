@@ -374,11 +374,6 @@ def shown(ms: float) -> str:
     return f"{ms:,.0f}" if ms >= 100 else f"{ms:.1f}" if ms >= 10 else f"{ms:.2f}"
 
 
-def is_too_much(few: int, many: int, old: Timed, new: Timed) -> bool:
-    """Whether lines take too many times as long at a length as at a smaller one."""
-    return new.ms > 1 and new.ms / old.ms > MOST_GROWTH ** math.log2(many / few)
-
-
 def print_table(options: argparse.Namespace, columns: list[dict[str, Timed]], tells_growth: bool = False) -> None:
     """Prints a table of the slowest lines of each row, with a column for each length."""
     pairs = list(itertools.pairwise(options.lengths))
@@ -391,7 +386,8 @@ def print_table(options: argparse.Namespace, columns: list[dict[str, Timed]], te
             continue  # a short run may have no such line
         cells = [f"{shown(line.ms)} {line.letter}" for line in row]
         for counts, (old, new) in zip(pairs, itertools.pairwise(row)):
-            bold = "**" if tells_growth and is_too_much(*counts, old, new) else ""
+            most = MOST_GROWTH ** math.log2(counts[1] / counts[0])  # times as long
+            bold = "**" if tells_growth and new.ms > 1 and new.ms / old.ms > most else ""
             cells.append(f"{bold}{new.ms / old.ms:.1f}{bold}")
         program.print_row(name, *cells, shown(row[-1].other), f"`{row[-1].line.text}`")
     print(flush=True)

@@ -243,11 +243,6 @@ def without_words(page: str) -> str:
     return bare
 
 
-def missing_in(rest: str, block: str) -> str:
-    """The first line of a table or trace that the rest of a page doesn't have as a line of its own."""
-    return next((line for line in lines_of(block) if f"\n{line}\n" not in f"\n{rest}"), "its lines, in a row")
-
-
 def blocks_fault(page: str, blocks: Iterable[str]) -> str:
     """What is wrong with a page that shall have these tables and traces, in this order and no other
     ones, or nothing."""
@@ -255,7 +250,8 @@ def blocks_fault(page: str, blocks: Iterable[str]) -> str:
     for number, block in enumerate(blocks, 1):
         before, found, behind = rest.partition(block)
         if not found:
-            return f"table or trace {number} of its page lacks {missing_in(rest, block)}"
+            missing = (line for line in lines_of(block) if f"\n{line}\n" not in f"\n{rest}")
+            return f"table or trace {number} of its page lacks {next(missing, 'its lines, in a row')}"
         if any(begin in before for begin in begins):
             return f"its page has another table or trace before its number {number}"
         rest = behind

@@ -111,13 +111,8 @@ CHECKS: dict[str, Check] = {
 }
 
 
-def in_folder(check: Check, built: str) -> str:
-    """What a check finds with a folder of its own, or nothing."""
-    with tempfile.TemporaryDirectory() as folder:
-        return program.tried(check, built, Path(folder))
-
-
 def checks(given: argparse.Namespace) -> Iterator[tuple[str, str]]:
     """The checks, each a name and what is wrong, or nothing."""
     for name, check in CHECKS.items():
-        yield name, in_folder(check, given.program)
+        with tempfile.TemporaryDirectory() as folder:
+            yield name, program.tried(check, given.program, Path(folder))

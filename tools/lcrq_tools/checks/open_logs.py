@@ -249,11 +249,6 @@ class Drawn:
             self.chance.shuffle(lines)
         return fault_of(bench.compare(lines, "--ring", RING), agrees)
 
-    def is_excused(self) -> bool:
-        """Whether it agrees in some order."""
-        return any_order(self.world(), self.run)
-
-
 def blurred_runs(bench: Bench, pseudo_code: PseudoCode, count: int) -> Iterator[tuple[str, str]]:
     """Logs of so many runs."""
     fault = ""
@@ -270,7 +265,7 @@ def wrong_runs(bench: Bench, pseudo_code: PseudoCode, count: int) -> Iterator[tu
     while refused < count:
         drawn = Drawn(pseudo_code, seed)
         drawn.run = with_bug(drawn.run, drawn.chance)
-        agrees = drawn.is_excused()
+        agrees = any_order(drawn.world(), drawn.run)
         refused, excused = refused + (not agrees), excused + agrees
         wrong = drawn.fault(bench, agrees)
         fault, seed = fault or wrong and f"seed {seed}: {wrong}", seed + 1

@@ -67,11 +67,6 @@ def read_claim(shown: Shown, value: str) -> bool:
     return shown.before == shown.after and state == wanted
 
 
-def lost_claim(shown: Shown, *_: str) -> bool:
-    """What is lost changes nothing."""
-    return shown.before == shown.after and shown.seen.step.answer == "lost"
-
-
 def since_claim(shown: Shown, read: str, writer: str) -> bool:
     """The actor's own step read a part of the place, and a later step of another actor wrote a part of it."""
     step, earlier, later = shown.seen.step, shown.step(read), shown.step(writer)
@@ -110,7 +105,7 @@ CLAIMS: dict[str, Claim] = {
     r"CAS won: links (\S+) behind (\S+)": lambda shown, new, segment:
         (shown.before, shown.after, shown.seen.step.place.segment) == ("none", new, segment),
     r"CAS won: raises .* from (\d+) to (\d+)": lambda shown, old, new: shown.counts() == (int(old), int(new)),
-    r"CAS2? lost": lost_claim,
+    r"CAS2? lost": lambda shown: shown.before == shown.after and shown.seen.step.answer == "lost",
     r"read in step (\d+), by step (\d+)": since_claim,
     r"CAS lost: (\S+) is linked": lambda shown, name: shown.before == name,
     r"moved already, by step \d+, to ([^;]+)": lambda shown, name: shown.before == name,

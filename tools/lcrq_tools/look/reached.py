@@ -83,13 +83,9 @@ def type_named(name: str, path: Path) -> Own | OfKit | None:
     of_others = [file for file in files if crate_of(file) in crates]
     for file in own + of_crate + of_others:
         return Own(file, name)
-    of_kit = (OfKit(crate, name) for crate in crates if name[0].isupper() and is_of_kit(crate))
-    return next(of_kit, None)
-
-
-def is_of_kit(crate: str) -> bool:
-    """Whether the first word of an import names a crate of the kit."""
-    return crate not in ("crate", "self", "super") and not (CRATES / crate).is_dir()
+    own_words = ("crate", "self", "super")
+    kits = (crate for crate in crates if crate not in own_words and not (CRATES / crate).is_dir())
+    return next((OfKit(crate, name) for crate in kits if name[0].isupper()), None)
 
 
 def declared(crate: str, names: Sequence[str]) -> Own | None:

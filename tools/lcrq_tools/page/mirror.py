@@ -92,11 +92,6 @@ def number_of(name: str) -> tuple[int, ...]:
     return tuple(map(int, name.split(".")))
 
 
-def by_name(item: tuple[str, str]) -> tuple[int, ...]:
-    """By what a segment comes before others, which has its next beside it."""
-    return number_of(item[0])
-
-
 class Mirror(AbstractContextManager["Mirror"]):
     """A run that is followed. `states` has its moments from `begin` lines on."""
 
@@ -214,7 +209,8 @@ class Mirror(AbstractContextManager["Mirror"]):
     def obey(self, line: str, viewer: int = 0) -> str:
         """Obeys a line; returns its reply."""
         before = self.order.live
-        known = dict(zip(before, self.teller.live.texts)) if self.may_move(line) else {}
+        may_move = line.startswith(("undo", "roll ", "back ", "goto "))  # steps, which then have to be known
+        known = dict(zip(before, self.teller.live.texts)) if may_move else {}
         before = [*before]
         spoken = self.teller.tell(line)
         self.note([line], [viewer])
@@ -251,10 +247,6 @@ class Mirror(AbstractContextManager["Mirror"]):
         self.rows = {step: self.rows[step] for step in state.rows if step in self.rows}
         self.fill_rows(state)
         self.states = [state]
-
-    def may_move(self, line: str) -> bool:
-        """Whether a line may take back steps, which then have to be known."""
-        return line.startswith(("undo", "roll ", "back ", "goto "))
 
     def changed(self, before: list[int], known: dict[int, str], spoken: Spoken) -> set[Place] | None:
         """The places of the steps that a line made, took back or made again; nothing where it did none of these."""
@@ -305,7 +297,8 @@ class Mirror(AbstractContextManager["Mirror"]):
     def link(self, ends: Mapping[str, str]) -> None:
         """Puts the segments into the order of their links, from the queue's ends on."""
         self.ends = ends["qhead"], ends["qtail"]
-        self.linked, self.apart = in_order(dict(sorted(self.nexts.items(), key=by_name)), self.ends)
+        nexts = {name: self.nexts[name] for name in sorted(self.nexts, key=number_of)}
+        self.linked, self.apart = in_order(nexts, self.ends)
 
     def chain(self) -> list[str]:
         """All segments, the linked ones in the order of their links first."""

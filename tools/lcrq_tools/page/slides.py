@@ -53,11 +53,6 @@ def add_option(parser: argparse.ArgumentParser) -> None:
     parser.add_argument("--slides", type=lines_in, metavar="N,N..", help=about)
 
 
-def question_of(text: str) -> str:
-    """What is asked of a line."""
-    return QUESTIONS.get(text.partition(" ")[0], ANY_LINE)
-
-
 def chosen(lines: Sequence[int], states: list[State]) -> list[dict[str, object]]:
     """What a slide has of each of these lines: its moment, its text, and the question."""
     places = {it.line: at for at, it in enumerate(states) if at}
@@ -66,7 +61,8 @@ def chosen(lines: Sequence[int], states: list[State]) -> list[dict[str, object]]
     if wrong := [line for line in lines if line not in places]:
         raise Fault(f"line {wrong[0]} is not among the lines {min(places)} to {max(places)} of the page")
     found = [(places[line], states[places[line]]) for line in lines]
-    return [{"at": at, "text": it.asked(), "question": question_of(it.text)} for at, it in found]
+    questions = (QUESTIONS.get(it.text.partition(" ")[0], ANY_LINE) for _, it in found)
+    return [{"at": at, "text": it.asked(), "question": asked} for (at, it), asked in zip(found, questions)]
 
 
 def parts_of(lines: Sequence[int] | None, states: list[State]) -> dict[str, str]:

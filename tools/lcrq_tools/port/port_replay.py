@@ -94,10 +94,6 @@ class Steps(Sequence[Made]):
         here = self.actors.rfind(actor)
         return self.stands[here] if here >= 0 else self.first[actor]
 
-    def since_start(self) -> Iterator[Made]:
-        """The steps since the start."""
-        return self.behind(self.before)
-
     def behind(self, count: int) -> Iterator[Made]:
         """The steps behind the first ones, which are so many."""
         return map(self.__getitem__, range(count, len(self)))

@@ -269,7 +269,8 @@ class About:
     def chosen_rows(self, count: int) -> list[str]:
         """The options for the last steps at the places in question and of the actor."""
         actor, places = self.found.record.actor, self.places()
-        steps = enumerate((step for _, step in self.replay.steps.since_start()), self.replay.first + 1)
+        since_start = self.replay.steps.behind(self.replay.before)
+        steps = enumerate((step for _, step in since_start), self.replay.first + 1)
         chosen = (
             number for number, step in steps if step.event.actor == actor or any(map(step.place.overlaps, places))
         )

@@ -51,11 +51,6 @@ class HasChoices(Fault):
     """A log that has a choice at E10, and left one out before."""
 
 
-def goes_up(stamps: Sequence[int]) -> bool:
-    """Whether no stamp is below the one before it."""
-    return all(map(operator.le, stamps, stamps[1:]))
-
-
 def end_of(raw: Raw) -> int:
     """The second stamp of a record, or the only one; -1 of none."""
     if not raw[2]:
@@ -149,7 +144,7 @@ class Log:
         stamps = self.stamps(whole, len(lines))
         raws = [*(zip(stamps, itertools.count(first), lines) if stamps else self.one_by_one(lines, first))]
         order = [self.last, *map(STAMP, raws)]
-        if self.is_sorted and not goes_up(order):
+        if self.is_sorted and not all(map(operator.le, order, order[1:])):
             raise OutOfOrder(f"{self.where}: its stamps go down behind line {first % LINES}")  # and are sorted
         self.last = order[-1]
         self.ready += raws

@@ -2,7 +2,7 @@
 tries them one by one, and takes them back, as the search of `port_orders.py` asks.
 """
 
-from collections.abc import Callable, Iterator, Sequence
+from collections.abc import Callable, Iterator
 from dataclasses import dataclass
 from pathlib import Path
 
@@ -218,11 +218,8 @@ def lines_of(found: Found, tries: int, folder: Path | None) -> Iterator[str]:
         yield f"order: {many}; {none}{far if found.is_settled else ''}; this one came furthest: {cost}"
     if folder:
         folder.mkdir(parents=True, exist_ok=True)
-        (folder / ORDER).write_text("".join(renumbered(found.records)), encoding="utf-8")
+        stamped = (f"{number} {it.text.split(None, 1)[1]}\n" for number, it in enumerate(found.records, 1))
+        (folder / ORDER).write_text("".join(stamped), encoding="utf-8")
         yield f"  {folder / ORDER}: the log in this order"
 
 
-def renumbered(records: Sequence[Record]) -> Iterator[str]:
-    """The lines of a log of these records, stamped by their order."""
-    for number, record in enumerate(records, 1):
-        yield f"{number} {record.text.split(None, 1)[1]}\n"

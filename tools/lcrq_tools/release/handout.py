@@ -81,14 +81,9 @@ def lacks_of(lessons: tuple[int, ...]) -> str:
 # ---- Two archives ---------------------------------------------------------------------------------
 
 
-def is_answer(name: str) -> bool:
-    """Whether a file of an archive has the answers apart."""
-    return Path(name).stem == ANSWERS
-
-
 def archives_of(name: str, files: dict[str, bytes]) -> dict[str, dict[str, bytes]]:
     """The archives with these files: the answers apart have one of their own, for the teacher."""
-    apart = {path: data for path, data in files.items() if is_answer(path)}
+    apart = {path: data for path, data in files.items() if Path(path).stem == ANSWERS}
     others = {path: data for path, data in files.items() if path not in apart}
     return {name: others} | ({f"{name}-{ANSWERS}": apart} if apart else {})
 

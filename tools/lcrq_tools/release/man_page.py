@@ -185,11 +185,6 @@ def tags_of(rows: list[list[str]]) -> int:
     return min([*short, False].index(False) or 1, len(short) - 1)
 
 
-def tag_of(text: str) -> list[str]:
-    """A tag, which is one line of roff."""
-    return [" ".join(lines_of(text))]
-
-
 def tagged(rows: list[list[str]]) -> list[str]:
     """A table as a list: the tag of each row, then its other cells, from the second on behind the names of
     their columns. The names of the first ones are above the list."""
@@ -199,7 +194,7 @@ def tagged(rows: list[list[str]]) -> list[str]:
         tag = " ".join(filter(None, row[:count]))
         (_, first), *others = zip(rows[0][count:], row[count:])
         text = ". ".join([first, *(f"{name}: {cell}" for name, cell in others if cell)])
-        lines += [f".TP {INDENT}", *tag_of(tag if count == 1 else f"**{tag}**"), *lines_of(text)]
+        lines += [f".TP {INDENT}", " ".join(lines_of(tag if count == 1 else f"**{tag}**")), *lines_of(text)]
     return lines
 
 

@@ -6,7 +6,6 @@ used.
 
 import difflib
 import re
-from collections.abc import Iterator
 
 from lcrq_tools import manual
 
@@ -21,14 +20,9 @@ EXAMPLE_NAME = "a"
 CLOSE = 0.6  # how alike two words have to be, so that one may be meant by the other
 
 
-def all_forms() -> Iterator[str]:
-    """The forms of a line, with each kind of place in those that have one."""
-    for form in manual.FORMS:
-        for place in manual.PLACES if "PLACE" in form else [""]:
-            yield form.replace("PLACE", place)
-
-
-FORMS = tuple(all_forms())
+# The forms of a line, with each kind of place in those that have one.
+FORMS = tuple(form.replace("PLACE", place) for form in manual.FORMS
+              for place in (manual.PLACES if "PLACE" in form else [""]))
 WORDS = tuple(dict.fromkeys(form.split(" ")[0] for form in manual.FORMS))
 
 

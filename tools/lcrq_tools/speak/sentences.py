@@ -105,11 +105,6 @@ class Seen:
         return self.before.words if self.after.is_idle() else self.after.words
 
 
-def cell_words(cell: Cell) -> str:
-    """Safe bit and index of a cell, in words."""
-    return f"{'safe' if cell.is_safe else 'unsafe'}, {cell.index}"
-
-
 def cell_at(seen: Seen) -> Cell:
     """The cell that an actor has read, by its words."""
     words = seen.words()
@@ -142,7 +137,8 @@ def access_words(seen: Seen) -> dict[str, str]:
         cell = cell_at(seen)
         taken = f"the cell holds {cell.value}" if cell.value is not None else f"too late for position {words['t']}"
         index = str(Cell.read(seen.shown).index) if place.kind == "cell" else str(cell.index)
-        return {"half": cell_words(cell), "taken": taken, "idx": index}
+        half = f"{'safe' if cell.is_safe else 'unsafe'}, {cell.index}"
+        return {"half": half, "taken": taken, "idx": index}
     return {}
 
 
