@@ -120,13 +120,43 @@ def lacks(shown: str, *wanted: str) -> str:
 
 # ---- Rows -----------------------------------------------------------------------------------------
 
+Typed = tuple[str, str, tuple[str, ...]]  # a line, what is waited for behind it, and what is shown up to the next prompt
+# What is typed at a prompt with these options, and what it shows.
+TYPED: dict[str, tuple[list[str], list[Typed]]] = {
+    "Each reply comes with its sentence, behind a prompt that counts": ([], [
+        ("enq 1 7", "", ("ok 1  begins to enqueue 7", "1 live> ")),
+        ("go 1", "", ("ok 2  E1: reads the queue's tail: 0.0", "2 live> ")),
+        ("undo", "", ("at 1 1  takes back step 2", "1 live, 1 undone> ")),
+    ]),
+    "Arrows move in a line and recall the one before, and a letter is taken back": ([], [
+        ("enq 1 7", "", ()), (f"gx{DELETE} 1{LEFT}{LEFT}o", "ok 2", ("ok 2",)), (UP, "ok 3", ("ok 3",)),
+    ]),
+    "`help` and `?` list the commands, and `help WORD` says more": ([], [
+        ("help", "queue", ("enq A X", "markat I", "until", "save")), ("?", "queue", ("enq A X", "markat I")),
+        ("help go", "next atomic step", ("go A",)),
+    ]),
+    "`where` shows the actors, and `queue` the queue, also with undone steps, which stay": ([], [
+        *((line, "", ()) for line in (*CALL, "undo")),
+        ("where", "actor 4", (
+            "actor 1 is at E4 of `enq 7`, would write the tail of ring 0.0", "which grows by 1",
+        )),
+        ("queue", "no value", ("0.0  head 0  tail 0  QHead  QTail", "index  0  1  2  3")),
+        ("len", "at 3 1", ("at 3 1",)),
+    ]),
+    "A count repeats a line, and `until` goes on to the end of a call": ([], [
+        (CALL[0], "", ()), (CALL[1], "ok 4", ("ok 4",)), ("until 1", "ok 7 enqueued", ("ok 7 enqueued",)),
+        ("until 1", "refused 3 Idle", ("actor 1 is in no call",)), ("until", "expected `until A`", ()),
+    ]),
+    "The options of a world are what the session begins with": (["--ring", "2", "--actors", "2"], [
+        ("show cell 0.0 2", "", ("NoSuchPlace",)), ("deq 3", "", ("there is no actor 3",)),
+    ]),
+}
 
-def sentences(path: str) -> str:
-    """Each reply comes with its sentence, behind a prompt that counts."""
-    with at_prompt(path) as terminal:
-        shown = terminal.enter("enq 1 7") + terminal.enter("go 1") + terminal.enter("undo")
-    return lacks(shown, "ok 1  begins to enqueue 7", "1 live> ", "ok 2  E1: reads the queue's tail: 0.0", "2 live> ",
-                 "at 1 1  takes back step 2", "1 live, 1 undone> ")
+
+def typed_fault(options: Sequence[str], lines: Sequence[Typed], path: str) -> str:
+    """What isn't shown of what should be where these lines are typed, or nothing."""
+    with at_prompt(path, *options) as terminal:
+        return next(filter(None, (lacks(terminal.enter(line, wait), *shown) for line, wait, shown in lines)), "")
 
 
 def slips(path: str) -> str:
@@ -137,14 +167,6 @@ def slips(path: str) -> str:
         wrong = [lacks(terminal.enter(line), f"not sent: {'' if text[0] in 'de' else 'no command'}", text, "0 live> ")
                  for line, text in said.items()]
         return next(filter(None, wrong), "") or lacks(terminal.enter("len"), "at 0 0")
-
-
-def editing(path: str) -> str:
-    """Arrows move in a line and recall the one before, and a letter is taken back."""
-    with at_prompt(path) as terminal:
-        terminal.enter("enq 1 7")
-        shown = terminal.enter(f"gx{DELETE} 1{LEFT}{LEFT}o", "ok 2") + terminal.enter(UP, "ok 3")
-    return lacks(shown, "ok 2", "ok 3")
 
 
 def completion(path: str) -> str:
@@ -166,33 +188,6 @@ def leaving(path: str) -> str:
     with at_prompt(path) as terminal:
         both = (status, terminal.end(f"quit{ENTER}"))
     return lacks(shown, "at 1 0") or ("" if both == (0, 0) else f"statuses {both}")
-
-
-def helping(path: str) -> str:
-    """`help` and `?` list the commands, and `help WORD` says more."""
-    with at_prompt(path) as terminal:
-        shown = terminal.enter("help", "queue") + terminal.enter("?", "queue")
-        one = terminal.enter("help go", "next atomic step")
-    return lacks(shown, "enq A X", "markat I", "until", "save") or lacks(one, "go A")
-
-
-def looking(path: str) -> str:
-    """`where` shows the actors, and `queue` the queue, also with undone steps, which stay."""
-    with at_prompt(path) as terminal:
-        for line in (*CALL, "undo"):
-            terminal.enter(line)
-        where, queue = terminal.enter("where", "actor 4"), terminal.enter("queue", "no value")
-        counts = terminal.enter("len", "at 3 1")
-    return (lacks(where, "actor 1 is at E4 of `enq 7`, would write the tail of ring 0.0", "which grows by 1")
-            or lacks(queue, "0.0  head 0  tail 0  QHead  QTail", "index  0  1  2  3") or lacks(counts, "at 3 1"))
-
-
-def going_on(path: str) -> str:
-    """A count repeats a line, and `until` goes on to the end of a call."""
-    with at_prompt(path) as terminal:
-        shown = terminal.enter(CALL[0]) + terminal.enter(CALL[1], "ok 4") + terminal.enter("until 1", "ok 7 enqueued")
-        none = terminal.enter("until 1", "refused 3 Idle") + terminal.enter("until", "expected `until A`")
-    return lacks(shown, "ok 4", "ok 7 enqueued") or lacks(none, "actor 1 is in no call")
 
 
 def saving(path: str) -> str:
@@ -241,13 +236,9 @@ def remembering(path: str) -> str:
 
 
 def beginning(path: str) -> str:
-    """A script, a trace and the options of a world are what the session begins with."""
+    """A script is what the session begins with."""
     with at_prompt(path, str(EXAMPLES / "session.script")) as terminal:
-        first = terminal.text()
-    with at_prompt(path, "--ring", "2", "--actors", "2") as terminal:
-        second = terminal.enter("show cell 0.0 2") + terminal.enter("deq 3")
-    wanted = lacks(first, "19 lines are run, 1 refused", "14 live> ")
-    return wanted or lacks(second, "NoSuchPlace", "there is no actor 3")
+        return lacks(terminal.text(), "19 lines are run, 1 refused", "14 live> ")
 
 
 def piped(path: str) -> str:
@@ -294,11 +285,12 @@ def typed(tmux: Callable[..., str]) -> str:
     return lacks(tmux("capture-pane", "-p"), "E1: reads the queue's tail: 0.0", "E2: reads which segment follows 0.0")
 
 
-ROWS = (sentences, slips, editing, completion, leaving, helping, looking, going_on, saving, narrow, plain, remembering,
-        beginning, piped, in_tmux)
+ROWS = (slips, completion, leaving, saving, narrow, plain, remembering, beginning, piped, in_tmux)
 
 
 def checks(arguments: argparse.Namespace) -> Iterator[tuple[str, str]]:
     """All rows, each with what is wrong, or nothing."""
+    for name, (options, lines) in TYPED.items():
+        yield name, tried(typed_fault, options, lines, arguments.program)
     for row in ROWS:
         yield (row.__doc__ or "").rstrip("."), tried(row, arguments.program)
