@@ -7,6 +7,7 @@ Two keep a reading of their own, since they check the program independently: `de
 """
 
 import functools
+from collections.abc import Callable, Iterator
 from dataclasses import dataclass, field
 
 MOST_KEPT = 1 << 14  # texts of one class whose reading is kept: a run names the same ones again and again
@@ -17,6 +18,7 @@ PLACES = {"qhead": 0, "qtail": 0, "ahead": 0, "atail": 0, "acell": 1}
 PLACES |= dict.fromkeys(("head", "tail", "next", "whole"), 1) | dict.fromkeys(("cell", "value", "index"), 2)
 KINDS = PLACES | {NOTHING: 0, "actor": 1}
 CALLS = {"enq": 1, "deq": 0, "aenq": 1, "adeq": 0}  # how many words come after each
+AT_ONCE = 64  # lines that are asked at most where nobody knows how many there are; the first time two
 WORDS = ("crq", "new", "next", "t", "h", "closed", "val", "safe", "idx", "pass")
 
 
@@ -305,6 +307,18 @@ def is_made(reply: str) -> bool:
 def content_of(reply: str) -> str:
     """What is at a place, by the reply to `show`; nothing if there is no such place."""
     return reply.removeprefix("is ") if reply.startswith("is ") else ""
+
+
+def all_of(ask: Callable[[list[str]], list[str]], line: str, first: int = 0) -> Iterator[str]:
+    """What is replied to a line with this number and each one after it, up to one that is refused."""
+    count = 1
+    while True:
+        count = min(AT_ONCE, 2 * count)
+        for reply in ask([line.format(number) for number in range(first, first + count)]):
+            if reply.startswith("refused "):
+                return
+            yield reply.removeprefix("is ")
+        first += count
 
 
 def stand_of(reply: str) -> str:

@@ -20,22 +20,18 @@ the same bytes.
 """
 
 import argparse
-import itertools
 import re
 from collections.abc import Iterable, Iterator, Sequence
 
 from lcrq_tools import model
 from lcrq_tools.draw.boxes import SLOTS, Chip, Moment, Segment
-from lcrq_tools.draw.figure import Session, in_order, kind_of, script_name, write_drawn
+from lcrq_tools.draw.figure import Session, kind_of, script_name, write_drawn
 from lcrq_tools.draw.queue_drawing import draw
 from lcrq_tools.draw.viewer_marks import viewer_name
 from lcrq_tools.faults import Fault
 from lcrq_tools.options import number_above_0, run_parser, settled
-from lcrq_tools.records import WORDS, Actor, Cell, Place, Refusal, Step, Tail, content_of, is_made
-from lcrq_tools.speak.sentences import Seen
-from lcrq_tools.speak.teller import Teller
-
-AT_ONCE = 16  # of how many segments of a maker one run asks
+from lcrq_tools.page.mirror import Mirror, State, places_in
+from lcrq_tools.records import WORDS, Actor, Cell, Place, Refusal, Step, Tail
 
 Code = dict[str, dict[str, list[str]]]  # the lines of each control point, by the calls
 
@@ -43,35 +39,14 @@ Code = dict[str, dict[str, list[str]]]  # the lines of each control point, by th
 # ---- Memory ---------------------------------------------------------------------------------------
 
 
-def contents_of(session: Session, places: Sequence[str]) -> dict[str, str]:
-    """What is at each of these places, as far as it is there."""
-    contents = map(content_of, session.ask([f"show {place}" for place in places]))
-    return {place: content for place, content in zip(places, contents) if content}
-
-
-def names_of(session: Session, actors: Iterable[int]) -> list[str]:
-    """The names of all segments: the root, and those that each actor has made."""
-    names = ["0.0"]
-    for maker in actors:
-        for first in itertools.count(0, AT_ONCE):
-            found = contents_of(session, [f"whole {maker}.{number}" for number in range(first, first + AT_ONCE)])
-            if not found:
-                break
-            names += [Place.read(place).segment for place in found]
-    return names
-
-
-def segments_of(session: Session, names: Sequence[str], ring: int, ends: Sequence[str]) -> list[Segment]:
+def segments_of(mirror: Mirror) -> list[Segment]:
     """All segments, the linked ones first."""
-    places = [f"{kind} {name}" for name in names for kind in ("head", "tail", "next")]
-    places += [f"cell {name} {cell}" for name in names for cell in range(ring)]
-    content = contents_of(session, places)
-    linked, apart = in_order({name: content[f"next {name}"] for name in names}, ends)
+    content = mirror.contents_of([place for name in mirror.chain() for place in places_in(name, mirror.ring)])
     found = []
-    for name in [*linked, *apart]:
+    for name in mirror.chain():
         head, tail, following = (content[f"{kind} {name}"] for kind in ("head", "tail", "next"))
-        cells = [Cell.read(content[f"cell {name} {index}"]) for index in range(ring)]
-        found.append(Segment(name, int(head), Tail.read(tail), following, cells, name in linked))
+        cells = [Cell.read(content[f"cell {name} {index}"]) for index in range(mirror.ring)]
+        found.append(Segment(name, int(head), Tail.read(tail), following, cells, name in mirror.linked))
     return found
 
 
@@ -99,18 +74,6 @@ def read_words(step: model.Step) -> list[str]:
     return [word for word in WORDS if word in reads - sets]
 
 
-def trials_of(actors: Iterable[int], live: int) -> list[str]:
-    """What is asked for the next step of each actor, where so many steps are live: it is made and undone again."""
-    number = live + 1
-    return [line for actor in actors for line in (f"go {actor}", f"step {number}", f"undo {number}")]
-
-
-def tried_by(actors: Iterable[int], replies: Sequence[str]) -> dict[int, Step | Refusal]:
-    """The next step of each actor by these replies, or why there is none."""
-    pairs = zip(replies[::3], replies[1::3])
-    return dict(zip(actors, (Step.read(step) if is_made(made) else Refusal.read(made) for made, step in pairs)))
-
-
 def chip_of(number: int, actor: Actor, tried: Step | Refusal, page: Code, rows: dict[str, model.Step]) -> Chip:
     """The chip of an actor by its number, its words, and its next step, or why there is none."""
     lines = page[actor.call_word()][actor.point]
@@ -122,26 +85,11 @@ def chip_of(number: int, actor: Actor, tried: Step | Refusal, page: Code, rows: 
     return Chip(number, actor.call, actor.point, lines, words, "", note)
 
 
-def actors_of(session: Session) -> dict[int, Actor]:
-    """Each actor of the world."""
-    replies = session.ask([f"actor {number}" for number in range(1, session.actors + 1)])
-    return dict(enumerate(map(Actor.read, replies), 1))
-
-
-def chips_of(session: Session, actors: dict[int, Actor]) -> list[Chip]:
+def chips_of(state: State) -> list[Chip]:
     """The chips of the actors that are in a call."""
-    busy = [number for number, actor in actors.items() if not actor.is_idle()]
     text = model.PAGE.read_text(encoding="utf-8")
     page, (rows, _) = model.lines_of(text), model.read(text)
-    tried = tried_by(busy, session.ask(trials_of(busy, session.live)))
-    return [chip_of(number, actors[number], tried[number], page, rows) for number in busy]
-
-
-def last_of(session: Session) -> Seen | None:
-    """The last live step, if there is one."""
-    with session.driven("the last step") as driven:
-        driven.ask_all(session.lines)
-        return Teller(driven.ask_all).last()
+    return [chip_of(number, state.actors[number], tried, page, rows) for number, tried in state.tried.items()]
 
 
 # ---- The moment -----------------------------------------------------------------------------------
@@ -167,19 +115,16 @@ def moment_of(arguments: argparse.Namespace) -> tuple[Moment, str]:
     line: int | None = arguments.lines
     if line and count < line:
         raise Fault(f"the {kind_of(arguments)} has {count} lines: --line names one of them")
-    actors = actors_of(session)
-    idle = [number for number, actor in actors.items() if actor.is_idle()]
-    array = contents_of(session, ["ahead", "atail", *(f"acell {slot}" for slot in range(SLOTS))])
-    ends = [*contents_of(session, ["qhead", "qtail"]).values()]
-    names = names_of(session, actors)
-    chips, last = chips_of(session, actors), last_of(session)
+    with Mirror(session.words, session.lines, session.viewers) as mirror:
+        array = mirror.contents_of(["ahead", "atail", *(f"acell {slot}" for slot in range(SLOTS))])
+        segments, last = segments_of(mirror), mirror.teller.last()
+        state, ends = mirror.state, mirror.ends
+    idle, chips = [number for number in state.actors if number not in state.tried], chips_of(state)
     written = map(str, last.step.wrote()) if last else ()
     places = [*(chip.place for chip in chips if chip.place), *written]
     near = {*ends, *(Place.read(place).segment for place in places)}
     moment = Moment(
-        *titles_of(arguments, session), session.world(), ends[0], ends[1],
-        segments_of(session, names, session.ring, ends), array, chips, idle, last, near,
-        session.viewers[-1] if session.viewers else 0,
+        *titles_of(arguments, session), session.world(), *ends, segments, array, chips, idle, last, near, state.viewer,
     )
     return moment, session.refused
 

@@ -15,16 +15,13 @@ from lcrq_tools.draw.askers import viewer_of
 from lcrq_tools.draw.boxes import MOST_KEPT, SLOTS, counted
 from lcrq_tools.draw.figure import in_order
 from lcrq_tools.draw.lanes import Row, lanes_of, row_of
-from lcrq_tools.draw.moment import trials_of, tried_by
 from lcrq_tools.draw.viewer_marks import viewer_name
-from lcrq_tools.options import MOST_ACTORS
 from lcrq_tools.order import Order, common_of, steps_named
 from lcrq_tools.program import Driven
-from lcrq_tools.records import Actor, Cell, Counts, Place, Refusal, Step, content_of
+from lcrq_tools.records import Actor, Cell, Counts, Place, Refusal, Step, all_of, content_of, is_made
 from lcrq_tools.speak.sentences import Seen
 from lcrq_tools.speak.teller import Spoken, Teller
 
-MOST_CELLS = 8  # that a ring may have
 ENDS = ("qhead", "qtail", "ahead", "atail")
 NEAR = 40  # lines after which a segment of a long list that nobody touches isn't drawn any more
 MOST_NAMES = 1 << 16  # of segments, whose numbers are kept
@@ -90,6 +87,18 @@ def lanes_in(name: str, ring: int) -> list[str]:
 def number_of(name: str) -> tuple[int, ...]:
     """The two numbers of a segment's name."""
     return tuple(map(int, name.split(".")))
+
+
+def trials_of(actors: Iterable[int], live: int) -> list[str]:
+    """What is asked for the next step of each actor, where so many steps are live: it is made and undone again."""
+    number = live + 1
+    return [line for actor in actors for line in (f"go {actor}", f"step {number}", f"undo {number}")]
+
+
+def tried_by(actors: Iterable[int], replies: Sequence[str]) -> dict[int, Step | Refusal]:
+    """The next step of each actor by these replies, or why there is none."""
+    pairs = zip(replies[::3], replies[1::3])
+    return dict(zip(actors, (Step.read(step) if is_made(made) else Refusal.read(made) for made, step in pairs)))
 
 
 class Mirror(AbstractContextManager["Mirror"]):
@@ -161,16 +170,15 @@ class Mirror(AbstractContextManager["Mirror"]):
         """The first moment, of which all is asked."""
         ask = self.facts.ask_all
         counts = Counts(len(self.order.live), len(self.order.undone))
-        cells = ask([f"show index 0.0 {cell}" for cell in range(MOST_CELLS)])
-        self.ring = sum(map(bool, map(content_of, cells)))
-        stands = ask([f"actor {actor}" for actor in range(1, MOST_ACTORS + 1)])
-        actors = {number: Actor.read(text) for number, text in enumerate(stands, 1) if text.startswith("actor ")}
+        self.ring = sum(1 for _ in all_of(ask, "show index 0.0 {}"))
+        actors = dict(enumerate(map(Actor.read, all_of(ask, "actor {}", 1)), 1))
         self.begins = 1  # how often there was a first moment
         self.above = max(0, counts.live - self.most) if self.most is not None else 0
         slots = [f"acell {slot}" for slot in range(SLOTS)]
         replies = dict(zip((*ENDS, *slots), map(content_of, ask([f"show {place}" for place in (*ENDS, *slots)]))))
         self.used |= {slot for slot, place in enumerate(slots) if replies[place] != "empty"}
-        self.nexts = self.nexts_of(sorted(self.names(actors), key=number_of))
+        nexts = self.contents_of([f"next {name}" for name in sorted(self.names(actors), key=number_of)])
+        self.nexts = {place.removeprefix("next "): name for place, name in nexts.items()}
         self.link(replies)
         first = State(
             len(self.texts), live=counts.live, undone=counts.undone, viewer=self.viewers[-1] if self.viewers else 0,
@@ -185,24 +193,13 @@ class Mirror(AbstractContextManager["Mirror"]):
 
     def names(self, actors: Iterable[int]) -> list[str]:
         """The names of all segments: the root, and those that each actor has made."""
-        names = ["0.0"]
-        for maker in actors:
-            count = 0
-            while True:
-                asked = [f"{maker}.{number}" for number in range(count, count + 64)]
-                replies = self.facts.ask_all([f"show whole {name}" for name in asked])
-                found = [name for name, reply in zip(asked, replies) if content_of(reply)]
-                names += found
-                count += len(asked)
-                if len(found) < len(asked):
-                    break
-        return names
+        made = ((maker, all_of(self.facts.ask_all, f"show whole {maker}.{{}}")) for maker in (0, *actors))
+        return [f"{maker}.{number}" for maker, own in made for number, _ in enumerate(own)]
 
-    def nexts_of(self, names: Iterable[str]) -> dict[str, str]:
-        """What follows each of these segments, if it is there."""
-        asked = [*names]
-        replies = map(content_of, self.facts.ask_all([f"show next {name}" for name in asked]))
-        return {name: following for name, following in zip(asked, replies) if following}
+    def contents_of(self, places: Sequence[str]) -> dict[str, str]:
+        """What is at each of these places, as far as it is there."""
+        contents = map(content_of, self.facts.ask_all([f"show {place}" for place in places]))
+        return {place: content for place, content in zip(places, contents) if content}
 
     # ---- A line
 

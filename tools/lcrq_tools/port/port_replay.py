@@ -13,7 +13,7 @@ from collections.abc import Collection, Iterator, Sequence
 from pathlib import Path
 
 from lcrq_tools.program import Broken, Driven
-from lcrq_tools.records import Actor, Counts, Place, Step
+from lcrq_tools.records import Actor, Counts, Place, Step, all_of
 from lcrq_tools.start.starts import Asked, Segment, Start, Trace, text_of
 
 SET_AT = {"crq": ("E1", "Q1"), "new": ("E12",), "next": ("E2", "Q13")}  # words of an actor, and the lines that set each
@@ -252,7 +252,7 @@ class Replay:
         self.first = Counts.read(self.ask(["len"])[0]).live  # live steps that a trace brings along
         asked = Asked(self.ask)
         self.ring = asked.count("show index 0.0 {}")
-        self.states = [*map(Actor.read, asked.all_of("actor {}", 1))]
+        self.states = [*map(Actor.read, all_of(self.ask, "actor {}", 1))]
         self.steps.freeze({actor: str(state).encode("ascii") for actor, state in enumerate(self.states, 1)})
 
     @property

@@ -4,13 +4,12 @@ All that is shown are replies: contents of places, words of actors, and the plac
 touch, which is asked by making that step in a run of its own. Only Python's standard library is used.
 """
 
-import itertools
-from collections.abc import Callable, Iterable, Iterator, Sequence
+from collections.abc import Callable, Iterator, Sequence
 
 from lcrq_tools import model
 from lcrq_tools.draw.figure import in_order
 from lcrq_tools.program import TOP
-from lcrq_tools.records import Actor, Cell, Refusal, Step, Tail, content_of, read_reply
+from lcrq_tools.records import Actor, Cell, Refusal, Step, Tail, all_of, content_of, read_reply
 from lcrq_tools.speak.teller import Ask, place_words, stand_words
 
 SLOTS = 64
@@ -32,29 +31,19 @@ def without_colour(text: str, _: str) -> str:
 # ---- The queue ------------------------------------------------------------------------------------
 
 
-def until_refused(ask_all: Ask, lines: Iterable[str], at_once: int = 16) -> Iterator[str]:
-    """The replies to lines, up to the first that is refused."""
-    lines = iter(lines)
-    while part := [*itertools.islice(lines, at_once)]:
-        for reply in ask_all(part):
-            if reply.startswith("refused "):
-                return
-            yield content_of(reply) or reply
-
-
 def segments_of(ask_all: Ask, makers: int) -> dict[str, str]:
     """The segments, each with what follows it."""
     nexts: dict[str, str] = {}
     for maker in range(makers + 1):
-        asked = (f"show next {maker}.{number}" for number in itertools.count())
-        nexts |= {f"{maker}.{number}": name for number, name in enumerate(until_refused(ask_all, asked))}
+        after = enumerate(all_of(ask_all, f"show next {maker}.{{}}"))
+        nexts |= {f"{maker}.{number}": name for number, name in after}
     return nexts
 
 
 def segment_lines(ask_all: Ask, name: str, ends: Sequence[str], paint: Paint) -> Iterator[str]:
     """A segment: its counters, and its cells with the marks of the counters below them."""
     head, tail = (content_of(reply) for reply in ask_all([f"show head {name}", f"show tail {name}"]))
-    cells = [Cell.read(cell) for cell in until_refused(ask_all, (f"show cell {name} {at}" for at in itertools.count()))]
+    cells = [*map(Cell.read, all_of(ask_all, f"show cell {name} {{}}"))]
     state = Tail.read(tail)
     closed = paint("closed ", RED) if state.is_closed else ""
     yield f"{paint(name, BOLD)}  head {head}  tail {closed}{state.count}{''.join(f'  {end}' for end in ends)}"

@@ -26,7 +26,7 @@ from lcrq_tools import entry, manual
 from lcrq_tools.faults import FAULTS, Fault, Parser, text_of
 from lcrq_tools.options import add_program, add_script, add_world, settled, start_words
 from lcrq_tools.program import Driven, bytes_of, lines_of as lines_of_text, run, script_of
-from lcrq_tools.records import Counts
+from lcrq_tools.records import Counts, all_of
 from lcrq_tools.speak import board, completion, forms
 from lcrq_tools.speak.teller import Spoken, Teller
 
@@ -57,7 +57,7 @@ class Session:
         self.driven = Driven([program, *self.world])
         self.teller = Teller(self.driven.ask_all)
         self.counts = Counts(len(self.teller.live), 0)
-        self.actors = sum(1 for _ in board.until_refused(self.driven.ask_all, (f"actor {at}" for at in range(1, 99))))
+        self.actors = sum(1 for _ in all_of(self.driven.ask_all, "actor {}", 1))
 
     def close(self) -> None:
         """Ends the run."""
@@ -98,8 +98,7 @@ class Session:
 
 def marks_of(session: Session) -> list[str]:
     """The bookmarks' names."""
-    replies = board.until_refused(session.driven.ask_all, (f"markat {number}" for number in range(1, 99)))
-    return [reply.split(" ")[1] for reply in replies]
+    return [reply.split(" ")[1] for reply in all_of(session.driven.ask_all, "markat {}", 1)]
 
 
 def known_of(session: Session) -> completion.Known:

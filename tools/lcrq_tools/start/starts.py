@@ -9,7 +9,7 @@ from collections.abc import Callable, Collection, Iterable, Iterator, Mapping, S
 from typing import Any, Literal, TypedDict, cast
 
 from lcrq_tools import records
-from lcrq_tools.records import Place, Tail, content_of, number_or_none
+from lcrq_tools.records import Place, Tail, all_of, content_of, number_or_none
 
 # ---- A trace, as its JSON is ---------------------------------------------------------------------
 
@@ -216,8 +216,6 @@ def set_part(segment: Segment, kind: str, index: int, words: list[str]) -> None:
 
 # ---- The world of a run --------------------------------------------------------------------------
 
-AT_ONCE = 64  # lines that are asked at most where nobody knows how many there are; the first time two
-
 
 class Asked:
     """A world at which a run of the program is. `ask` gives the replies to lines."""
@@ -229,20 +227,9 @@ class Asked:
         """What is at these places."""
         return [content_of(reply) for reply in self.ask([f"show {place}" for place in places])]
 
-    def all_of(self, line: str, first: int = 0) -> Iterator[str]:
-        """What is replied to a line with this number and each one after it, up to one that is refused."""
-        count = 1
-        while True:
-            count = min(AT_ONCE, 2 * count)
-            for reply in self.ask([line.format(number) for number in range(first, first + count)]):
-                if reply.startswith("refused "):
-                    return
-                yield reply.removeprefix("is ")
-            first += count
-
     def count(self, line: str, first: int = 0) -> int:
         """How many numbers there are for a line, from 0 on, of which so many are known."""
-        return first + sum(1 for _ in self.all_of(line, first))
+        return first + sum(1 for _ in all_of(self.ask, line, first))
 
     def segment(self, name: str, ring: int) -> Segment:
         """The segment of this name."""
@@ -257,13 +244,13 @@ class Asked:
     def array(self) -> Array:
         """The array."""
         head, tail = map(int, self.show("ahead", "atail"))
-        slots = enumerate(self.all_of("show acell {}"))
+        slots = enumerate(all_of(self.ask, "show acell {}"))
         return {"head": head, "tail": tail, "cells": [slot_of(*slot) for slot in slots if slot[1] != "empty"]}
 
     def trace(self, known: Sequence[Sequence[Segment]] = (), touched: Collection[str] = ()) -> Trace:
         """The whole world as a trace that begins there. Of its segments those that are known, and were not touched
         since, aren't asked for."""
-        actors = [actor_of(records.Actor.read(reply)) for reply in self.all_of("actor {}", 1)]
+        actors = [actor_of(records.Actor.read(reply)) for reply in all_of(self.ask, "actor {}", 1)]
         ring = self.count("show cell 0.0 {}")
         kept = {f"{maker}.{number}": segment for maker, own in enumerate(known) for number, segment in enumerate(own)}
         for name in touched:
