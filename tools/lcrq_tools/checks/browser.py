@@ -137,7 +137,7 @@ class Walk:
     def __init__(self, browser: Browser, path: Path, arguments: argparse.Namespace) -> None:
         self.browser, self.path, self.arguments = browser, path, arguments
         path.write_text(page.page_of(arguments)[0], encoding="utf-8")
-        self.run = page.asked_of(arguments)
+        self.run = page.session_of(arguments)
         self.count = len(self.run.lines)
         columns = model.lines_of(model.PAGE.read_text(encoding="utf-8")).values()
         self.code = {point: "\n".join(lines).strip() for column in columns for point, lines in column.items()}

@@ -108,7 +108,7 @@ class Acting:
         path = self.folder / "asked.script"
         path.write_bytes(self.tab.got("script"))
         words = [str(path), "--refused", *WORLD, "--program", self.program]
-        asked = shown.Moment(page.asked_of(page.parser().parse_args(words)), len(self.lines()))
+        asked = shown.Moment(page.session_of(page.parser().parse_args(words)), len(self.lines()))
         drawn = self.ask("shown()")
         return (
             shown.places_fault(drawn, asked) or shown.order_fault(drawn, asked) or shown.rows_fault(drawn, asked)
@@ -206,8 +206,8 @@ def frames_fault(acting: Acting) -> str:
     for step in range(1, live + 1):
         path.write_bytes(acting.tab.got("script") + f"undo {step}\n".encode())
         words = [str(path), "--refused", *WORLD, "--program", acting.program]
-        run = page.asked_of(page.parser().parse_args(words))
-        if run.session.replies_to(run.lines)[-1].startswith("at "):
+        run = page.session_of(page.parser().parse_args(words))
+        if run.replies_to(run.lines)[-1].startswith("at "):
             free.append(step)
     return "" if framed == free else f"steps {framed} are framed, and {free} can be undone alone"
 

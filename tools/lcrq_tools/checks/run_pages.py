@@ -115,8 +115,8 @@ def words_fault(state: State, line: str, reply: str, told: str) -> str:
 def state_fault(text: str, arguments: argparse.Namespace, each: int) -> str:
     """The first thing that is wrong with the data of a page, or nothing."""
     data, states = states_in(text)
-    run = page.asked_of(arguments)
-    told, given = replies.told_by(run.session.words, run.lines), run.session.replies_to(run.lines)
+    run = page.session_of(arguments)
+    told, given = replies.told_by(run.words, run.lines), run.replies_to(run.lines)
     for index in sorted({*range(0, len(states), each), len(states) - 1}):
         state, line = states[index], data["first"] + index
         session = run.at(line)

@@ -10,7 +10,7 @@ from typing import Any
 from lcrq_tools.checks import replies
 from lcrq_tools.checks.moments import labels_wanted
 from lcrq_tools.checks.replies import Call
-from lcrq_tools.page.asked import Asked
+from lcrq_tools.draw.figure import Session
 
 Shown = dict[str, Any]  # what the page shows, as a function of browser.js returns it
 Node = dict[str, Any]  # of the accessibility tree: its role, its name and more
@@ -19,7 +19,7 @@ Node = dict[str, Any]  # of the accessibility tree: its role, its name and more
 class Moment(replies.Replies):
     """What the program replies after so many lines of a script."""
 
-    def __init__(self, run: Asked, line: int) -> None:
+    def __init__(self, run: Session, line: int) -> None:
         session = run.at(line)
         segments = replies.segments_of(replies.trace_of(session))
         super().__init__(session.ask, session, segments, replies.array())

@@ -51,7 +51,7 @@ class Session:
     """The session that a script or a history leaves: each question is asked of a new run of it."""
 
     def __init__(self, arguments: argparse.Namespace) -> None:
-        self.words = words_of(arguments)
+        self.arguments, self.words = arguments, words_of(arguments)
         self.script, self.viewers = given_of(arguments)
         self.lines = lines_of(self.script.decode("latin-1"))  # whose letters are their bytes
         trace: str | None = arguments.trace
@@ -71,6 +71,14 @@ class Session:
         self.refused, has_fault = refusals_of(self.script, given)
         if has_fault and not takes_refused:
             raise Fault(f"{self.refused}; --refused draws it all the same")
+
+    def at(self, line: int) -> "Session":
+        """The session that so many of its lines leave."""
+        return Session(argparse.Namespace(**vars(self.arguments) | {"lines": line}))
+
+    def text(self, line: int) -> str:
+        """A line as a page shows it; nothing before the first one."""
+        return self.lines[line - 1].encode("latin-1").decode("ascii", "replace") if line else ""
 
     def world(self) -> str:
         """What the world is, in words."""

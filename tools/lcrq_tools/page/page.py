@@ -26,13 +26,12 @@ from html import escape
 from pathlib import Path
 from string import Template
 
-from lcrq_tools.draw.figure import kind_of, script_name, write_drawn
+from lcrq_tools.draw.figure import Session, kind_of, script_name, write_drawn
 from lcrq_tools.draw.lanes import Row, Widths, actor_of
 from lcrq_tools.faults import Fault
 from lcrq_tools.options import run_parser, settled
 from lcrq_tools.order import common_of
 from lcrq_tools.page import page_data, page_lanes, page_parts, slides
-from lcrq_tools.page.asked import Asked
 from lcrq_tools.page.page_data import Data
 from lcrq_tools.page.mirror import Mirror, State
 from lcrq_tools.program import Broken
@@ -69,9 +68,8 @@ def shown_rows(mirror: Mirror, states: Sequence[State]) -> dict[int, Row]:
     return {step: rows[step] for step in shown}
 
 
-def start_of(asked: Asked, lanes: list[str], above: int) -> dict[str, str]:
-    """What is on each lane before the first row that is shown."""
-    session = asked.at(asked.first)
+def start_of(session: Session, lanes: list[str], above: int) -> dict[str, str]:
+    """What is on each lane before the first row that is shown, if this is the session there."""
     lines = [lane if actor_of(lane) else f"show {lane}" for lane in lanes]
     return dict(zip(lanes, map(stand_of, session.ask_parts([session.moved_to(above + 1), lines])[1])))
 
@@ -94,28 +92,27 @@ def command_of(arguments: argparse.Namespace) -> list[str]:
     return [f"grep '^[0-9]' {name} | head -n ", f" | cut -d ' ' -f 2- | {shlex.join(words)}"]
 
 
-def asked_of(arguments: argparse.Namespace) -> Asked:
-    """The run that a page is asked for."""
-    part: tuple[int, int] | None = arguments.part
-    first, last = part or (1, None)
-    asked = Asked(argparse.Namespace(**vars(arguments) | {"lines": last}), first - 1)
-    if last and last > len(asked.lines):
-        raise Fault(f"the {kind_of(arguments)} has {len(asked.lines)} lines: --lines names some of them")
-    return asked
+def session_of(arguments: argparse.Namespace) -> Session:
+    """The session that a page is asked for, which may end before its last line."""
+    last: int | None = arguments.part and arguments.part[1]
+    session = Session(argparse.Namespace(**vars(arguments) | {"lines": last}))
+    if last and last > len(session.lines):
+        raise Fault(f"the {kind_of(arguments)} has {len(session.lines)} lines: --lines names some of them")
+    return session
 
 
-def run_of(arguments: argparse.Namespace, asked: Asked, mirror: Mirror) -> Data:
+def run_of(arguments: argparse.Namespace, session: Session, mirror: Mirror) -> Data:
     """The data of the page of the moments that were followed."""
     above = above_of(mirror.states)
     states = [replace(state, above=above, rows=state.rows[above:]) for state in mirror.states]
     drawn = shown_rows(mirror, states)
     lanes = page_lanes.in_order(page_lanes.lanes_of_rows(drawn.values()), mirror.chain())
     name = f"after {above}" if above else "start" if arguments.trace else ""
-    start = start_of(asked, lanes, above) if name else {}
+    start = start_of(session.at(mirror.states[0].line), lanes, above) if name else {}
     viewers = page_data.named_viewers(states, drawn.values())
     layout = page_lanes.layout_of(lanes, Widths(start, drawn.values()), viewers, start, name)
     given: Data = {
-        "title": f"{script_name(arguments)}, {asked.session.world()}", "ring": asked.session.ring,
+        "title": f"{script_name(arguments)}, {session.world()}", "ring": session.ring,
         "command": command_of(arguments),
     }
     return page_data.run_of(given, states[0], drawn, layout, viewers) | page_data.moments_of(states)
@@ -133,14 +130,13 @@ def page_with(run: Data, **more: str) -> str:
 
 def page_of(arguments: argparse.Namespace) -> tuple[str, str]:
     """The page that is asked for, and what to say of refused lines."""
-    asked = asked_of(arguments)
-    count = len(asked.lines) - asked.first
+    session, first = session_of(arguments), arguments.part[0] - 1 if arguments.part else 0
+    count = len(session.lines) - first
     if count > MOST_LINES:
         raise Fault(f"{count} lines are too many for a page: --lines A:B takes {MOST_LINES} of them, as 1:{MOST_LINES}")
-    session = asked.session
     try:
-        with Mirror(session.words, asked.lines, session.viewers, asked.first) as mirror:
-            run = run_of(arguments, asked, mirror)
+        with Mirror(session.words, session.lines, session.viewers, first) as mirror:
+            run = run_of(arguments, session, mirror)
     except (Broken, OSError) as fault:
         raise Fault(f"the moments can't be asked for: {fault}") from fault
     return page_with(run, **slides.parts_of(arguments.slides, mirror.states)), session.refused
