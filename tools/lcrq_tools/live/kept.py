@@ -19,6 +19,7 @@ from typing import Any
 from lcrq_tools.drafts import RUN_WITH
 from lcrq_tools.faults import Fault
 from lcrq_tools.history import history_of
+from lcrq_tools.options import start_words
 
 KEPT_BY, TRACE, NAME, NOTE = "# kept by live.py ", "# trace ", "# name ", "# note "
 ENDING = ".history"
@@ -50,8 +51,7 @@ class Kept:
 
     def options(self) -> list[str]:
         """The options of a fresh world."""
-        chosen = [("--actors", self.actors), ("--ring", self.ring)]
-        return [word for option, value in chosen if value for word in (option, str(value))]
+        return start_words(None, self.actors, self.ring)[2:]
 
     def only(self, places: Sequence[int]) -> "Kept":
         """The run with these of its lines alone."""

@@ -5,7 +5,6 @@ have become many, the data begin anew with that line.
 """
 
 from collections.abc import Sequence
-from contextlib import AbstractContextManager
 from dataclasses import replace
 
 from lcrq_tools.draw.lanes import Widths
@@ -19,7 +18,7 @@ from lcrq_tools.records import Place
 FOLLOWED, LISTED = 100, 200  # lines before the last one whose moments are known, and steps on each side of the border
 
 
-class Followed(AbstractContextManager["Followed"]):
+class Followed:
     """A run that is followed. Viewers are named as soon as there are two."""
 
     def __init__(
@@ -30,9 +29,6 @@ class Followed(AbstractContextManager["Followed"]):
         self.mirror = Mirror(words, lines, viewers, max(0, len(lines) - followed), listed)
         self.pseudocode = page_data.Pseudocode()
         self.begin()
-
-    def __exit__(self, *_: object) -> None:
-        self.close()
 
     def close(self) -> None:
         """Ends the program's runs."""

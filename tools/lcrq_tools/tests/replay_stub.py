@@ -1,7 +1,9 @@
 """What tests of the tools for ports put in the place of a run of the program: it makes the steps of a list."""
 
+import contextlib
 import copy
-from collections.abc import Mapping, Sequence
+import tempfile
+from collections.abc import Iterator, Mapping, Sequence
 from pathlib import Path
 
 from lcrq_tools import model, records
@@ -9,7 +11,7 @@ from lcrq_tools.port import port_log
 from lcrq_tools.port.port_compare import Comparison, Listed
 from lcrq_tools.port.port_log import Record
 from lcrq_tools.port.port_replay import Replay, Steps
-from lcrq_tools.port.port_stream import Actors
+from lcrq_tools.port.port_stream import Actors, Source
 from lcrq_tools.records import Actor
 from lcrq_tools.start import starts
 from lcrq_tools.start.starts import Trace
@@ -159,3 +161,14 @@ def compared(*texts: str, replay: Replay | None = None) -> Comparison:
 def with_record(at: int, text: str) -> list[str]:
     """The log with this record in the place of one, which is its last one then."""
     return [*LOG[:at], text]
+
+
+@contextlib.contextmanager
+def source(*logs: bytes) -> Iterator[Source]:
+    """The records of these logs."""
+    with tempfile.TemporaryDirectory() as folder:
+        names = [str(Path(folder) / f"{at}.log") for at in range(len(logs))]
+        for name, log in zip(names, logs):
+            Path(name).write_bytes(log)
+        with contextlib.closing(Source(names)) as made:
+            yield made

@@ -1,18 +1,15 @@
 """Records that are compared by batches: what is predicted of each, and that all comes out as by single records."""
 
-import contextlib
-import tempfile
 import unittest
-from pathlib import Path
 from unittest import mock
 
 from lcrq_tools.port import port_ahead, port_batch, port_replay
 from lcrq_tools.port.port_batch import SLOW, plan_of, planned, quick_plan
 from lcrq_tools.port.port_compare import Comparison, Difference
 from lcrq_tools.port.port_log import label_names, record_of
-from lcrq_tools.port.port_stream import Source
+from lcrq_tools.program import script_of
 from lcrq_tools.records import Step
-from lcrq_tools.tests.replay_stub import ENQUEUE, IDLE, LOG, Told, actor, compared, with_record
+from lcrq_tools.tests.replay_stub import ENQUEUE, IDLE, LOG, Told, actor, compared, source, with_record
 from lcrq_tools.tests.test_port_compare import REUSE, REUSED
 
 
@@ -52,14 +49,11 @@ class Batches(unittest.TestCase):
         self, *texts: str, told: Told | None = None, permits: bool = False
     ) -> tuple[Comparison, Difference | None]:
         """A comparison of these records, and the first difference."""
-        with tempfile.TemporaryDirectory() as folder:
-            file = Path(folder) / "a.log"
-            file.write_text("".join(f"{text}\n" for text in texts), encoding="ascii")
-            with contextlib.closing(Source([str(file)])) as source:
-                made = Comparison(told or Told(), source, permits_reuse=permits)
-                found = made.difference()
-                made.finish()
-                return made, found
+        with source(script_of(texts)) as records:
+            made = Comparison(told or Told(), records, permits_reuse=permits)
+            found = made.difference()
+            made.finish()
+            return made, found
 
     def check_alike(self, *texts: str) -> None:
         """That batches find what single records find."""

@@ -1,6 +1,5 @@
 """Differences of a port that are meant: their files, and how the model follows the port there."""
 
-import contextlib
 import tempfile
 import unittest
 from collections.abc import Sequence
@@ -12,8 +11,8 @@ from lcrq_tools.port.port_allow import Allowed, Meant, meant_of, read_allowed
 from lcrq_tools.port.port_compare import Comparison, Listed
 from lcrq_tools.port.port_log import Unreadable
 from lcrq_tools.port.port_side import Side
-from lcrq_tools.port.port_stream import Source
-from lcrq_tools.tests.replay_stub import ENQUEUE, LABELS, LOG, Made, Told, actor, records_of, with_record
+from lcrq_tools.program import script_of
+from lcrq_tools.tests.replay_stub import ENQUEUE, LABELS, LOG, Made, Told, actor, records_of, source, with_record
 
 CELL, RING = "E5 reads the whole cell", "E12 reuses its own unlinked ring"
 # Actor 1 makes a segment, can't link it, and makes another one that it links.
@@ -106,13 +105,10 @@ class Streams(unittest.TestCase):
     def check(self, line: str, steps: Sequence[Made], *texts: str) -> Comparison:
         """That a log agrees, as by records that are all known."""
         allowed = Allowed([meant_of("a.allow:1", f"{line}: why", LABELS)])
-        with tempfile.TemporaryDirectory() as folder:
-            file = Path(folder) / "a.log"
-            file.write_text("".join(f"{text}\n" for text in texts), encoding="ascii")
-            with contextlib.closing(Source([str(file)])) as source:
-                made = Comparison(Told(steps), source, follow=allowed.follow)
-                self.assertIsNone(made.difference())
-                made.finish()
+        with source(script_of(texts)) as records:
+            made = Comparison(Told(steps), records, follow=allowed.follow)
+            self.assertIsNone(made.difference())
+            made.finish()
         other, _ = compared(*texts, lines=(line,), told=Told(steps))
         self.assertIsNone(other.difference())
         other.finish()

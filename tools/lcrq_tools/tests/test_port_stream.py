@@ -3,26 +3,13 @@
 import contextlib
 import os
 import sys
-import tempfile
 import unittest
-from collections.abc import Iterator
-from pathlib import Path
 from unittest import mock
 
 from lcrq_tools.port import port_stream
 from lcrq_tools.port.port_log import Unreadable
 from lcrq_tools.port.port_stream import Actors, HasChoices, Open, OutOfOrder, Source
-
-
-@contextlib.contextmanager
-def source(*logs: bytes) -> Iterator[Source]:
-    """The records of these logs."""
-    with tempfile.TemporaryDirectory() as folder:
-        names = [str(Path(folder) / f"{at}.log") for at in range(len(logs))]
-        for name, log in zip(names, logs):
-            Path(name).write_bytes(log)
-        with contextlib.closing(Source(names)) as made:
-            yield made
+from lcrq_tools.tests.replay_stub import source
 
 
 def stamps(made: Source, most: int = 3) -> list[int]:
