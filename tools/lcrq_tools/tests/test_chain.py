@@ -132,13 +132,8 @@ class Statement(Talking):
 
     def setUp(self) -> None:
         super().setUp()
-        for name, value in (("MAIN", "high/src/main.rt"), ("HEADLINE", CLAUSE)):
-            patch = mock.patch.object(statement, name, value)
-            patch.start()
-            self.addCleanup(patch.stop)
-        uncached = mock.patch.object(statement, "parts", functools.cache(statement.parts.__wrapped__))
-        uncached.start()
-        self.addCleanup(uncached.stop)
+        uncached = functools.cache(statement.parts.__wrapped__)
+        self.enterContext(mock.patch.multiple(statement, MAIN="high/src/main.rt", HEADLINE=CLAUSE, parts=uncached))
 
     def test_the_theorem_is_clause_and_record(self) -> None:
         lines = statement.parts()["theorem"]

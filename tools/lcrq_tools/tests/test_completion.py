@@ -25,9 +25,7 @@ class Completion(unittest.TestCase):
     """Completions in a folder with two scripts, a trace, a text and a folder."""
 
     def setUp(self) -> None:
-        made = tempfile.TemporaryDirectory()
-        self.addCleanup(made.cleanup)
-        self.folder = Path(made.name)
+        self.folder = Path(self.enterContext(tempfile.TemporaryDirectory()))
         for name in ("a.script", "b c.script", "a.trace", "notes.txt"):
             (self.folder / name).touch()
         (self.folder / "more").mkdir()

@@ -95,9 +95,7 @@ class Tree(unittest.TestCase):
     """A small tree in the place of the repository."""
 
     def setUp(self) -> None:
-        folder = tempfile.TemporaryDirectory()
-        self.addCleanup(folder.cleanup)
-        self.top = Path(folder.name)
+        self.top = Path(self.enterContext(tempfile.TemporaryDirectory()))
         for name, text in FILES.items():
             path = self.top / name
             path.parent.mkdir(parents=True, exist_ok=True)
@@ -106,9 +104,7 @@ class Tree(unittest.TestCase):
         modules = (chain, clause_counts, contracts, definitions, lines, promises, reached, statement)
         places = [(it, "CRATES", crates) for it in modules]
         for module, name, value in [*places, (lines, "TOP", self.top), (kit, "has_kit", lambda: False)]:
-            patch = mock.patch.object(module, name, value)
-            patch.start()
-            self.addCleanup(patch.stop)
+            self.enterContext(mock.patch.object(module, name, value))
         forget: list[Callable[[], None]] = [
             reached.types.cache_clear, reached.crates_of_names.cache_clear, promises.exports_of.cache_clear
         ]
