@@ -5,6 +5,7 @@ installed takes those around the current folder; where there are none, it has th
 beside its modules, where `release/wheel.py` lays them. Only Python's standard library is used.
 """
 
+import os
 import shutil
 from pathlib import Path
 
@@ -42,3 +43,9 @@ def required(path: str, command: str = BUILDS) -> str:
     if not found:
         raise Fault(f"no program at {path}: at the top of the repository, this builds it: {command}")
     return found
+
+
+def state_folder() -> Path:
+    """Where runs and typed lines are kept, if nothing else is said."""
+    state = os.environ.get("XDG_STATE_HOME") or str(Path.home() / ".local" / "state")
+    return Path(state) / "lcrqdb"

@@ -185,12 +185,6 @@ def safe_name(title: str) -> str:
     return UNSAFE.sub("-", title)[:MOST_NAME].strip("-") or "run"
 
 
-def state_folder() -> Path:
-    """Where runs are kept, if nothing else is said."""
-    state = os.environ.get("XDG_STATE_HOME") or str(Path.home() / ".local" / "state")
-    return Path(state) / "lcrqdb"
-
-
 def free_path(folder: Path, title: str) -> Path:
     """A name for a new run, which no file has: that of its title, with the time."""
     begin = f"{safe_name(title)}-{time.strftime('%Y-%m-%d-%H%M%S')}"

@@ -20,13 +20,14 @@ from typing import NoReturn
 
 from lcrq_tools.faults import FAULTS, Fault, Parser, say, text_of
 from lcrq_tools.live.desk import MOST_PEOPLE
-from lcrq_tools.live.kept import Keep, Kept, free_path, is_kept, state_folder
+from lcrq_tools.live.kept import Keep, Kept, free_path, is_kept
 from lcrq_tools.live.links import is_link
 from lcrq_tools.live.opened import opened_file
 from lcrq_tools.live.room import Room
 from lcrq_tools.live.server import Server
 from lcrq_tools.options import add_program, add_script, add_world, settled
 from lcrq_tools.page.followed import Followed
+from lcrq_tools.places import state_folder
 from lcrq_tools.program import counted
 
 VIEWERS = 8  # if nothing is said

@@ -19,6 +19,7 @@ from lcrq_tools.draw.viewer_marks import viewer_name
 from lcrq_tools.order import Order, common_of, steps_named
 from lcrq_tools.program import Driven
 from lcrq_tools.records import Actor, Cell, Counts, Place, Refusal, Step, all_of, content_of, is_made
+from lcrq_tools.speak.board import segments_of
 from lcrq_tools.speak.sentences import Seen
 from lcrq_tools.speak.teller import Spoken, Teller
 
@@ -177,8 +178,7 @@ class Mirror(AbstractContextManager["Mirror"]):
         slots = [f"acell {slot}" for slot in range(SLOTS)]
         replies = dict(zip((*ENDS, *slots), map(content_of, ask([f"show {place}" for place in (*ENDS, *slots)]))))
         self.used |= {slot for slot, place in enumerate(slots) if replies[place] != "empty"}
-        nexts = self.contents_of([f"next {name}" for name in sorted(self.names(actors), key=number_of)])
-        self.nexts = {place.removeprefix("next "): name for place, name in nexts.items()}
+        self.nexts = segments_of(ask, len(actors))
         self.link(replies)
         first = State(
             len(self.texts), live=counts.live, undone=counts.undone, viewer=self.viewers[-1] if self.viewers else 0,
@@ -190,11 +190,6 @@ class Mirror(AbstractContextManager["Mirror"]):
         else:
             self.fill_rows(state)
         return state
-
-    def names(self, actors: Iterable[int]) -> list[str]:
-        """The names of all segments: the root, and those that each actor has made."""
-        made = ((maker, all_of(self.facts.ask_all, f"show whole {maker}.{{}}")) for maker in (0, *actors))
-        return [f"{maker}.{number}" for maker, own in made for number, _ in enumerate(own)]
 
     def contents_of(self, places: Sequence[str]) -> dict[str, str]:
         """What is at each of these places, as far as it is there."""

@@ -25,6 +25,7 @@ from pathlib import Path
 from lcrq_tools import entry, manual
 from lcrq_tools.faults import FAULTS, Fault, Parser, text_of
 from lcrq_tools.options import add_program, add_script, add_world, settled, start_words
+from lcrq_tools.places import state_folder
 from lcrq_tools.program import Driven, bytes_of, lines_of as lines_of_text, run, script_of
 from lcrq_tools.records import Counts, all_of
 from lcrq_tools.speak import board, completion, forms
@@ -279,12 +280,6 @@ def arguments_of(name: str) -> argparse.Namespace:
 # ---- The terminal ---------------------------------------------------------------------------------
 
 
-def history_file() -> Path:
-    """Where the lines of earlier sessions are kept."""
-    state = os.environ.get("XDG_STATE_HOME") or str(Path.home() / ".local" / "state")
-    return Path(state) / "lcrqdb" / "history"
-
-
 @contextlib.contextmanager
 def line_editing(prompt: Prompt) -> Iterator[None]:
     """Editing of lines, completion, and a history that is kept across sessions, where Python has `readline`."""
@@ -303,7 +298,7 @@ def line_editing(prompt: Prompt) -> Iterator[None]:
     readline.set_completer(complete)
     readline.set_completer_delims(" ")
     readline.parse_and_bind("tab: complete")
-    kept = history_file()
+    kept = state_folder() / "history"  # the lines of earlier sessions
     with contextlib.suppress(OSError):
         readline.read_history_file(kept)
     yield
