@@ -30,6 +30,7 @@ from lcrq_tools.checks.replies import Replies
 from lcrq_tools.draw.boxes import SLOTS
 from lcrq_tools.faults import Fault
 from lcrq_tools.history import History
+from lcrq_tools.live.folded import moments_of
 from lcrq_tools.page import page, page_parts
 
 STEPS = 60  # the lines of a run at random
@@ -65,16 +66,7 @@ def states_in(text: str) -> tuple[Data, list[State]]:
     found = re.search(r'<script type="application/json" id="run">(.*?)</script>', text, re.DOTALL)
     assert found, "the page has no data"
     data: Data = json.loads(found[1])
-    states: list[State] = []
-    before: State = {"places": {}, "actors": {}, "rows": []}
-    for change in data["moments"]:
-        kept, others = change.get("rows", [len(before["rows"]), []])
-        state = before | change | {"rows": before["rows"][:kept] + others}
-        for key in ("places", "actors"):
-            state[key] = before[key] | change.get(key, {})
-        states.append(state)
-        before = state
-    return data, states
+    return data, moments_of(data)
 
 
 # ---- The same moments, asked in another way -------------------------------------------------------
