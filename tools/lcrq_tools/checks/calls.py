@@ -14,10 +14,9 @@ import argparse
 import contextlib
 import io
 import random
-import tempfile
 import time
 from collections.abc import Iterator, Sequence
-from pathlib import Path
+from contextlib import AbstractContextManager
 
 from lcrq_tools import program
 from lcrq_tools.calls import calls as tool
@@ -26,6 +25,7 @@ from lcrq_tools.calls.intervals import Call
 from lcrq_tools.calls.orders import answer_of, is_order
 from lcrq_tools.calls.search import searched
 from lcrq_tools.checks import pictures
+from lcrq_tools.checks.answers import file_of
 from lcrq_tools.faults import status_of
 from lcrq_tools.program import EXAMPLES
 
@@ -203,12 +203,9 @@ def said_fault(given: argparse.Namespace, words: Sequence[str], status: int, wan
     return "" if ended == status and wanted in text else f"status {ended}, {text!r}"
 
 
-def hand_fault(given: argparse.Namespace, calls: str, status: int, wanted: str) -> str:
-    """What is wrong with what the tool says of a log made by hand, or nothing."""
-    with tempfile.TemporaryDirectory() as folder:
-        log = Path(folder) / "log"
-        log.write_text("".join(f"{number} {text}\n" for number, text in enumerate(calls.split("|"), 1)))
-        return said_fault(given, [str(log)], status, wanted)
+def log_of(calls: str) -> AbstractContextManager[str]:
+    """The name of a file with a log of these calls, whose stamps are their numbers."""
+    return file_of(program.script_of(f"{number} {text}" for number, text in enumerate(calls.split("|"), 1)))
 
 
 def checks(given: argparse.Namespace) -> Iterator[tuple[str, str]]:
@@ -223,4 +220,5 @@ def checks(given: argparse.Namespace) -> Iterator[tuple[str, str]]:
         yield f"the calls of {lesson.name}", said_fault(given, [str(EXAMPLES / f"{lesson.name}.script"), *world], *row)
     yield "a log that loses a value", said_fault(given, [str(EXAMPLES / "port" / "unsafe-ignored.log")], 1, LOST)
     for name, text, status, wanted, _ in BY_HAND:
-        yield f"a log by hand: {name}", hand_fault(given, text, status, wanted)
+        with log_of(text) as log:
+            yield f"a log by hand: {name}", said_fault(given, [log], status, wanted)

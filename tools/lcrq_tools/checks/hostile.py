@@ -89,15 +89,10 @@ SPELLED += [
 ]
 
 
-def lines_of(script: bytes) -> list[bytes]:
-    """The lines of a script."""
-    return script.removesuffix(b"\n").split(b"\n")
-
-
 def replies_fit(built: str, script: bytes) -> str:
     """Whether each line of a script has the reply that the grammar wants; says the first that has not."""
     status, output, errors = program.run([built, "run", "-"], script)
-    lines, replies = lines_of(script), output.split(b"\n")[:-1]
+    lines, replies = script.removesuffix(b"\n").split(b"\n"), output.split(b"\n")[:-1]
     if (status, errors) != (0, "") or len(lines) != len(replies):
         return f"status {status}, {len(replies)} replies to {len(lines)} lines, {errors!r}"
     faults = (b"refused 17 BadName", b"refused 22 BadLine", b"refused 23 LineTooLong")
@@ -131,7 +126,8 @@ def line_checks(built: str) -> Checks:
     yield "a spelled command with spaces up to 256 and 257 bytes", replies_fit(built, padded)
     for line in SPELLED:
         script = b"\n".join(mutations(line.encode())) + b"\n"
-        yield f"`{line}`, {len(lines_of(script)):,} lines that nearly spell it", replies_fit(built, script)
+        count = script.count(b"\n")
+        yield f"`{line}`, {count:,} lines that nearly spell it", replies_fit(built, script)
 
 
 # ---- The grammar of traces of version 2 ----------------------------------------------------------

@@ -1,8 +1,6 @@
 """The calls of a log, orders of calls, the sets that have none, and the picture of calls."""
 
-import tempfile
 import unittest
-from pathlib import Path
 from xml.etree import ElementTree
 
 from lcrq_tools.calls import calls as tool
@@ -10,7 +8,7 @@ from lcrq_tools.calls import intervals, orders, whiteboard
 from lcrq_tools.calls.culprits import culprits_of
 from lcrq_tools.calls.intervals import Call, calls_of_steps
 from lcrq_tools.calls.search import TooMany, searched
-from lcrq_tools.checks.calls import BY_HAND
+from lcrq_tools.checks.calls import BY_HAND, log_of
 from lcrq_tools.records import Step
 from lcrq_tools.tests.replay_stub import records_of
 from lcrq_tools.tests.stubs import NO_PROGRAM, told
@@ -31,10 +29,8 @@ def calls_in(text: str) -> list[Call]:
 
 def told_of(text: str, *words: str) -> tuple[int, str, str]:
     """What the tool says of a log of these records, whose stamps are their numbers."""
-    with tempfile.TemporaryDirectory() as folder:
-        log = Path(folder) / "a.log"
-        log.write_text("".join(f"{number} {part}\n" for number, part in enumerate(text.split("|"), 1)))
-        return told(tool.main, "calls.py", str(log), *words, "--program", NO_PROGRAM)
+    with log_of(text) as log:
+        return told(tool.main, "calls.py", log, *words, "--program", NO_PROGRAM)
 
 
 class Intervals(unittest.TestCase):

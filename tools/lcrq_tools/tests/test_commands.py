@@ -13,6 +13,7 @@ from pathlib import Path
 from unittest import mock
 
 from lcrq_tools import entry, faults
+from lcrq_tools.checks.answers import file_of
 from lcrq_tools.draw import moment, picture
 from lcrq_tools.page import page
 from lcrq_tools.port import conform
@@ -108,11 +109,9 @@ class Faults(unittest.TestCase):
 
     def test_a_program_that_is_not_lcrqdb(self) -> None:
         said = f"{NO_PROGRAM} does not reply as lcrqdb does"
-        with tempfile.TemporaryDirectory() as folder:
-            script = Path(folder) / "a.script"
-            script.write_text("enq 1 7\n", encoding="ascii")
+        with file_of("enq 1 7\n") as script:
             for main, tool in ((picture.main, "picture.py"), (moment.main, "moment.py"), (page.main, "page.py")):
-                self.check_fault(main, tool, [str(script), "--program", NO_PROGRAM], said)
+                self.check_fault(main, tool, [script, "--program", NO_PROGRAM], said)
 
     def test_a_window_that_is_none(self) -> None:
         wrong = "argument --lines: 9:3 is not A:B, two numbers of lines; --help shows what may be given"

@@ -1,12 +1,11 @@
 """Histories of viewers: how their text is read, and who asked which step."""
 
 import dataclasses
-import tempfile
 import unittest
-from pathlib import Path
 from unittest import mock
 
 from lcrq_tools import history, program
+from lcrq_tools.checks.answers import file_of
 from lcrq_tools.draw import figure, moment, picture
 from lcrq_tools.faults import Fault
 from lcrq_tools.history import History, history_of
@@ -51,10 +50,8 @@ class Texts(unittest.TestCase):
         self.assertEqual(history_of("a", "# lcrqdb\n0 len\n# seed 7\n2 undo\n"), History((0, 2), ("len", "undo")))
 
     def test_a_file_or_standard_input_is_read(self) -> None:
-        with tempfile.TemporaryDirectory() as folder:
-            path = Path(folder) / "a.history"
-            path.write_text(CALLS, encoding="ascii")
-            self.assertEqual(history.read(str(path)), READ)
+        with file_of(CALLS) as name:
+            self.assertEqual(history.read(name), READ)
         with mock.patch.object(program, "standard_input", lambda: CALLS.encode()):
             self.assertEqual(history.read("-"), READ)
 
@@ -112,11 +109,9 @@ class Options(unittest.TestCase):
 
     def test_what_is_no_history_is_a_fault(self) -> None:
         self.check_fault(["--history", "nowhere"], "nowhere: No such file or directory")
-        with tempfile.TemporaryDirectory() as folder:
-            path = Path(folder) / "a.history"
-            path.write_text("00 len\n", encoding="ascii")
-            said = f"{path}: line 1: `00 len` is of no viewer: they are numbered from 1 to 64"
-            self.check_fault(["--history", str(path)], said)
+        with file_of("00 len\n") as name:
+            said = f"{name}: line 1: `00 len` is of no viewer: they are numbered from 1 to 64"
+            self.check_fault(["--history", name], said)
         with mock.patch.object(program, "standard_input", lambda: b"len\n"):
             what = "is no call, which is a viewer's number and its line, as `2 go 1`"
             self.check_fault(["--history", "-"], f"standard input: line 1: `len` {what}")
