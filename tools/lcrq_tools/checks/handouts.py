@@ -21,6 +21,7 @@ from collections.abc import Iterator
 from pathlib import Path
 
 from lcrq_tools import program
+from lcrq_tools.checks.answers import file_of
 from lcrq_tools.program import TOP
 from lcrq_tools.release import handout, paper, release
 from lcrq_tools.release.release_pages import LESSONS, Choice
@@ -44,10 +45,8 @@ def pages_in(pgm: bytes) -> Iterator[float]:
 
 def fill_fault(choice: Choice) -> str:
     """What is wrong with a handout as it is printed, or nothing."""
-    with tempfile.NamedTemporaryFile(suffix=".pdf") as file:
-        file.write(release.pdf_of(handout.page_of("0", choice), choice))
-        file.flush()
-        used = [*pages_in(release.output_of(["pdftoppm", "-gray", "-r", str(DOTS), file.name]))]
+    with file_of(release.pdf_of(handout.page_of("0", choice), choice)) as name:
+        used = [*pages_in(release.output_of(["pdftoppm", "-gray", "-r", str(DOTS), name]))]
     empty = [f"page {at} of {len(used)}" for at, it in enumerate(used[:-1], 1) if it < LEAST]
     return f"{empty[0]} is half empty" if empty else "" if used else "it has no pages"
 

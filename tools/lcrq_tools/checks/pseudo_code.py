@@ -22,7 +22,6 @@ import itertools
 import json
 import operator
 import random
-import tempfile
 from collections import Counter
 from collections.abc import Callable, Iterable, Iterator
 from dataclasses import dataclass, field
@@ -30,6 +29,7 @@ from pathlib import Path
 from typing import NamedTuple, TypeVar
 
 from lcrq_tools import model, program
+from lcrq_tools.checks.answers import run_over
 from lcrq_tools.faults import Parser
 from lcrq_tools.options import add_program
 
@@ -492,10 +492,7 @@ def replies_to(built: str, start: Start, schedules: list[Schedule]) -> program.E
     script = program.script_of(line for schedule in schedules for line, *_ in schedule.rows)
     if start.world == "fresh":
         return program.run([built, "run", "-", "--actors", str(start.actors), "--ring", str(start.ring)], script)
-    with tempfile.NamedTemporaryFile("w", encoding="ascii") as trace:
-        trace.write(World(({}, {}), start, Counter()).trace())
-        trace.flush()
-        return program.run([built, "load", trace.name], script)
+    return run_over(built, World(({}, {}), start, Counter()).trace(), script)
 
 
 def fault_of(ended: program.Ended, lines: dict[str, list[str]], schedules: list[Schedule]) -> str:

@@ -7,12 +7,12 @@ session's trace, which `lcrqdb load` loads, or of a new run of the script. Only 
 import contextlib
 import itertools
 import json
-import tempfile
 from collections.abc import Callable, Collection, Iterable, Iterator, Mapping, Sequence
 from dataclasses import replace
 from typing import Any, NamedTuple
 
 from lcrq_tools import program
+from lcrq_tools.checks.answers import file_of
 from lcrq_tools.draw.figure import Session
 from lcrq_tools.draw.lanes import lanes_of
 from lcrq_tools.faults import Fault
@@ -52,11 +52,8 @@ def trace_of(session: Session) -> Trace:
 @contextlib.contextmanager
 def loaded(built: str, trace: Trace) -> Iterator[Ask]:
     """What asks a trace, which is loaded anew for each list of lines."""
-    with tempfile.NamedTemporaryFile("w", suffix=".trace") as file:
-        json.dump(trace, file)
-        file.flush()
-        words = [built, "load", "--", file.name]
-        yield lambda lines: written(words, program.script_of(lines))
+    with file_of(json.dumps(trace)) as name:
+        yield lambda lines: written([built, "load", name], program.script_of(lines))
 
 
 # ---- A moment ------------------------------------------------------------------------------------
