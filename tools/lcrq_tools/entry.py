@@ -1,11 +1,11 @@
 """The one way in: a tool by its name, as `lcrq NAME` where pip has installed the package, and by its script in
 tools/ where it hasn't.
 
-A name stands for a module with a function `main`, or with one `checks`, which gives what it finds with the options;
-or for a folder of such modules, which are named next: `lcrq check pages`. Without a name, each is listed with the first
-sentence of what it says of itself. What isn't there isn't listed: the archive that is handed out has only the tools
-that its pages name. What takes the repository is run by the repository's own package. Only Python's standard library is
-used.
+A name stands for a module with a function `main`, or with one `checks`, which gives what it finds with the options,
+or one `rows`, which gives what is tried with each build; or for a folder of such modules, which are named next:
+`lcrq check pages`. Without a name, each is listed with the first sentence of what it says of itself. What isn't there
+isn't listed: the archive that is handed out has only the tools that its pages name. What takes the repository is run by
+the repository's own package. Only Python's standard library is used.
 """
 
 import ast
@@ -47,6 +47,7 @@ TOOLS = {
     "gate": "look.gate",
     "release": "release.release",
 }
+RUN = ("main", "checks", "rows")  # the functions of which a module that can be run has one
 OF_THE_REPOSITORY = ("bench", "checks", "look", "release")  # the folders whose modules take it
 WIDTH, NAMES = 100, 16  # letters of a list's line, and of them those for a name
 
@@ -76,14 +77,15 @@ def tools_in(folder: str) -> dict[str, str]:
     modules = {path.stem: f"{folder}.{path.stem}" for path in sorted(file_of(folder).glob("*.py"))}
     functions = {name: {part.name for part in parsed(module).body if isinstance(part, ast.FunctionDef)}
                  for name, module in modules.items()}
-    return {name: module for name, module in modules.items() if not functions[name].isdisjoint(("main", "checks"))}
+    return {name: module for name, module in modules.items() if not functions[name].isdisjoint(RUN)}
 
 
 def main_of(module: str) -> Callable[[], int]:
     """What runs a module."""
     found = importlib.import_module(f"lcrq_tools.{module}")
     main: Callable[[], int] | None = getattr(found, "main", None)
-    return main or functools.partial(program.run_checks, found.__doc__, found.checks)
+    checks = getattr(found, "checks", lambda given: program.by_each_build(given.program, found.rows()))
+    return main or functools.partial(program.run_checks, found.__doc__, checks)
 
 
 # ---- Runs -----------------------------------------------------------------------------------------

@@ -25,7 +25,6 @@ Each row runs with each build of the program that is there: that of LLVM and, be
 The status is 1 if a page or report is another one. Only Python's standard library is used.
 """
 
-import argparse
 import functools
 import os
 import re
@@ -282,8 +281,3 @@ def rows() -> program.Rows:
     """Each lesson, the guide and each session, with what finds what is wrong with a build."""
     pages = [(name, functools.partial(page_fault, name)) for name in (*LESSONS, GUIDE)]
     return pages + [(name, functools.partial(session_fault, name, is_over)) for name, is_over in SESSIONS.items()]
-
-
-def checks(given: argparse.Namespace) -> Iterator[tuple[str, str]]:
-    """Each row by each build of the program, with what is wrong, or nothing."""
-    return program.by_each_build(given.program, rows())

@@ -14,7 +14,6 @@ Each row runs with each build of the program that is there: that of LLVM and, be
 compiler. The status is 1 if a row is another one. Only Python's standard library is used.
 """
 
-import argparse
 import functools
 import itertools
 import re
@@ -23,7 +22,6 @@ import shutil
 import signal
 import tempfile
 import textwrap
-from collections.abc import Iterator
 from pathlib import Path
 from typing import NamedTuple
 
@@ -130,8 +128,3 @@ def rows() -> program.Rows:
     """Each command line."""
     names = ((f"{number}: {textwrap.shorten(row.words, SHOWN)}", row) for number, row in enumerate(stored_rows(), 1))
     return [(name, functools.partial(row_fault, row)) for name, row in names]
-
-
-def checks(given: argparse.Namespace) -> Iterator[tuple[str, str]]:
-    """Each row by each build of the program, with what is wrong, or nothing."""
-    return program.by_each_build(given.program, rows())
