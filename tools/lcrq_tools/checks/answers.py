@@ -3,6 +3,7 @@
 """
 
 import contextlib
+import itertools
 import tempfile
 from collections.abc import Iterator
 
@@ -77,3 +78,10 @@ def report_of(ended: Ended) -> str:
 def differs(got: object, wanted: object) -> str:
     """How an answer differs from the one that is wanted, or nothing."""
     return "" if got == wanted else f"{got!r}, wanted {wanted!r}"
+
+
+def difference(got: str, wanted: str) -> str:
+    """The first line in which two texts differ, or nothing."""
+    pairs = itertools.zip_longest(program.lines_of(got), program.lines_of(wanted), fillvalue="nothing more")
+    lines = (f"`{line}`, and stored is `{other}`" for line, other in pairs if line != other)
+    return "" if got == wanted else next(lines, "the stored text has no line feed at the end")

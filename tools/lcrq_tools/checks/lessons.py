@@ -33,7 +33,7 @@ from collections.abc import Iterable, Iterator, Sequence
 from pathlib import Path
 
 from lcrq_tools import history, program
-from lcrq_tools.checks.answers import report_of, run_over
+from lcrq_tools.checks.answers import difference, report_of, run_over
 from lcrq_tools.clients import Live, finish, replies_of, talk
 from lcrq_tools.program import EXAMPLES, Broken, lines_of, row_of
 
@@ -271,10 +271,7 @@ def session_fault(name: str, over_a_trace: bool, built: str) -> str:
     """What is wrong with the report of a session, or nothing."""
     script = f"{name}.script"
     replies = report_over(built, text_of(f"{name}.trace"), script) if over_a_trace else report(built, "run", script)
-    wanted = text_of(f"{name}.report")
-    pairs = zip([*lines_of(replies), ""], [*lines_of(wanted), ""])
-    wrong = (f"the reply is `{reply}`, and its report has `{said}`" for reply, said in pairs if reply != said)
-    return "" if replies == wanted else next(wrong, "its report has another end")
+    return difference(replies, text_of(f"{name}.report"))
 
 
 def rows() -> program.Rows:

@@ -15,7 +15,6 @@ compiler. The status is 1 if a row is another one. Only Python's standard librar
 """
 
 import functools
-import itertools
 import re
 import resource
 import shutil
@@ -27,6 +26,7 @@ from typing import NamedTuple
 
 from lcrq_tools import program
 from lcrq_tools.checks import command_rows
+from lcrq_tools.checks.answers import difference
 from lcrq_tools.program import Ended, lines_of
 
 REHEARSED = Path(__file__).resolve().parent / "rehearsed"
@@ -109,13 +109,6 @@ def shown_row(row: Rehearsal, ended: Ended, replies: dict[str, str], forms: str)
     streams = {"output": ended.output.decode(), "errors": ended.errors} | replies
     texts = (shown_stream(name, taken.replace(forms, FORMS)) for name, taken in streams.items())
     return "".join([f"lcrqdb {row.words}\n", f"  status: {ended.status}\n", *texts])
-
-
-def difference(got: str, wanted: str) -> str:
-    """The first line in which two texts differ, or nothing."""
-    pairs = itertools.zip_longest(lines_of(got), lines_of(wanted), fillvalue="nothing more")
-    lines = (f"`{line}`, and stored is `{other}`" for line, other in pairs if line != other)
-    return "" if got == wanted else next(lines, "the stored text has no line feed at the end")
 
 
 def row_fault(row: Rehearsal, built: str) -> str:

@@ -7,6 +7,7 @@ import unittest
 from pathlib import Path
 
 from lcrq_tools.checks import rehearsals
+from lcrq_tools.checks.answers import difference
 from lcrq_tools.checks.rehearsals import Rehearsal
 from lcrq_tools.program import Ended
 
@@ -77,7 +78,7 @@ class Stored(unittest.TestCase):
             self.assertRegex(row.wanted, rf"^lcrqdb {re.escape(row.words)}\n  status: [0-9]\n(  .*\n)+\Z")
 
     def test_the_first_other_line_is_named(self) -> None:
-        self.assertEqual(rehearsals.difference("a\nb\n", "a\nb\n"), "")
-        self.assertEqual(rehearsals.difference("a\nb\n", "a\nc\n"), "`b`, and stored is `c`")
-        self.assertEqual(rehearsals.difference("a\n", "a\nc\n"), "`nothing more`, and stored is `c`")
-        self.assertEqual(rehearsals.difference("a\n", "a"), "the stored text has no line feed at the end")
+        self.assertEqual(difference("a\nb\n", "a\nb\n"), "")
+        self.assertEqual(difference("a\nb\n", "a\nc\n"), "`b`, and stored is `c`")
+        self.assertEqual(difference("a\n", "a\nc\n"), "`nothing more`, and stored is `c`")
+        self.assertEqual(difference("a\n", "a"), "the stored text has no line feed at the end")
