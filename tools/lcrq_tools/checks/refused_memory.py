@@ -1,13 +1,13 @@
-"""Refuses memory to the tests of `crates/shortages` and to the built program, at each point in turn, and looks at what
+"""Refuses memory to the tests of `crates/rd_memory_tests` and to the built program, at each point in turn, and looks at what
 they answer.
 
     python3 tools/check.py refused_memory [PART..] [--program P] [--tests T]
 
 Parts, all of them if none is named:
 
-    devices   the tests of crates/shortages over devices that fail at each of their calls, which the
+    devices   the tests of crates/rd_memory_tests over devices that fail at each of their calls, which the
               gate runs too
-    tests     the other tests of crates/shortages, each one of their allocations refused in turn
+    tests     the other tests of crates/rd_memory_tests, each one of their allocations refused in turn
     none      its tests of calls that take no memory, all allocations refused from each one on
     one       the program, with each one of its allocations refused in turn
     rest      the program, with all allocations refused from each one on
@@ -16,7 +16,7 @@ Parts, all of them if none is named:
     back      the program, with nothing refused: what 62 of 64 bookmarks had is given back when they
               are dropped
 
-P is the built program, and T the built tests of crates/shortages, for the first three parts; `rt ci` leaves both in the
+P is the built program, and T the built tests of crates/rd_memory_tests, for the first three parts; `rt ci` leaves both in the
 crates' folders out/. Each part prints a line with how many points were refused, and the status is 1 if anything is
 wrong. It needs a C compiler (`cc`) and `prlimit`. Only Python's standard library is used.
 """
@@ -462,8 +462,8 @@ def main() -> int:
     about = f"{', '.join(PARTS)}; all if none is named"
     parser.add_argument("parts", nargs="*", choices=[[], *PARTS], metavar="PART", help=about)
     add_program(parser)
-    tests = str(program.CRATES / "shortages" / "out" / "shortages_tests")
-    parser.add_argument("--tests", default=tests, help="the built tests of crates/shortages")
+    tests = str(program.CRATES / "rd_memory_tests" / "out" / "rd_memory_tests_tests")
+    parser.add_argument("--tests", default=tests, help="the built tests of crates/rd_memory_tests")
     given = parser.parse_args()
     parts = given.parts or list(PARTS)
     if not OF_TESTS.keys().isdisjoint(parts):
