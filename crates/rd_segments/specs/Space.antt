@@ -1,5 +1,5 @@
 -- The space as public contracts see it.
-use Rattle.std.specs.Prelude.{ℕ, length}
+use Rattle.std.specs.Prelude.{ℕ, length, vec_capacity}
 use Rattle.rd_ring.specs.Prelude.{SegName, Contents}
 use Rattle.rd_segments.specs.declared.array.ArrayParts.{ArrayParts}
 use Rattle.rd_segments.specs.declared.space.Space.{Space}
@@ -14,6 +14,10 @@ contents s = contents_of_fields s.makers.items s.qhead s.qtail s.array
 -- the number of makers that have a list
 abbrev pub list_count : {R : ℕ} → Space R → ℕ
 list_count s = length s.makers.items
+
+-- the number of makers' lists for which the space has memory
+abbrev pub list_capacity : {R : ℕ} → Space R → ℕ
+list_capacity s = vec_capacity s.makers
 
 -- the number of segments that a maker has made and that are still there; 0 if it has no list. The
 -- root counts as made by maker 0

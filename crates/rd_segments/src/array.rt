@@ -6,6 +6,7 @@ ghost use Rattle.std.specs.List.{All};
 ghost use Rattle.rd_ring.specs.Prelude.{SLOTS, can_hold, operand, operate, restore, everywhere, Operates, OperatesOnContent};
 ghost use Rattle.rd_cell.specs.Operations.{suits_array};
 
+use super::ends::done_of_read;
 use rd_cell::limits::SLOTS;
 use rd_cell::{Answer, ArrSlot, Content, Done, Operation, Place, Refusal, Wrote};
 
@@ -135,12 +136,7 @@ fn operate_on_counter(
 {
     let found = Content::Number(*counter);
     match operation {
-        Operation::Read => Ok(Done::of_operation(
-            place,
-            found,
-            Answer::Found(found),
-            Wrote::Nothing,
-        )),
+        Operation::Read => Ok(done_of_read(place, found)),
         Operation::AddArray => {
             if *counter >= SLOTS as u64 {
                 return Err(Refusal::ArrayEnd);

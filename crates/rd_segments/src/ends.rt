@@ -24,12 +24,7 @@ pub fn operate_on_name(
 {
     let found = Content::Name(*name);
     match operation {
-        Operation::Read => Ok(Done::of_operation(
-            place,
-            found,
-            Answer::Found(found),
-            Wrote::Nothing,
-        )),
+        Operation::Read => Ok(done_of_read(place, found)),
         Operation::CasName { old, new } => {
             let won = *name == old;
             if won {
@@ -39,4 +34,16 @@ pub fn operate_on_name(
         }
         _ => Err(Refusal::NoSuchPlace),
     }
+}
+
+/// Returns the record of a read: it answers the content that it found, and writes nothing.
+pub fn done_of_read(place: Place, found: Content) -> Done
+    ensures { result ≡ record {
+      place = Some place;
+      old = Some found;
+      answer = Answer.Found found;
+      wrote = Wrote.Nothing;
+    } }
+{
+    Done::of_operation(place, found, Answer::Found(found), Wrote::Nothing)
 }

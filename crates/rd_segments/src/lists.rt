@@ -28,7 +28,7 @@ pub fn find_in<const R: usize>(makers: &Vec<Vec<Segment<R>>>, name: SegName) -> 
 /// and wrote. The place must belong to this segment and not be its whole, and the operation must be
 /// one that `Segment::operate` allows. Fails with `NoSuchPlace` if there is no such segment, and
 /// otherwise as `Segment::operate` does; nothing changes then.
-pub fn operate_in<const R: usize>(
+pub fn operate_on_segment<const R: usize>(
     makers: &mut Vec<Vec<Segment<R>>>,
     name: SegName,
     place: Place,
@@ -44,6 +44,7 @@ pub fn operate_in<const R: usize>(
     ensures unchanged { OnErr result (contents_of_lists makers.new.items
         ≡ contents_of_lists makers.old.items) }
     ensures room { KeepsMakersRoom (makers_room makers.old.items) (makers_room makers.new.items) }
+    ensures capacity { vec_capacity makers.new ≡ vec_capacity makers.old }
 {
     let (maker, n) = (usize::from(name.maker), name.n as usize);
     if maker >= makers.len() || n >= makers[maker].len() {
@@ -54,7 +55,7 @@ pub fn operate_in<const R: usize>(
 
 /// Puts an old content back at a place of the segment of this name. That place must be there and
 /// name this segment too. The content must be of its kind, and a counter at most 2^62.
-pub fn restore_in<const R: usize>(
+pub fn restore_to_segment<const R: usize>(
     makers: &mut Vec<Vec<Segment<R>>>,
     name: SegName,
     place: Place,
@@ -68,6 +69,7 @@ pub fn restore_in<const R: usize>(
     ensures done { Restores everywhere place (Some content) (contents_of_lists makers.old.items)
         (contents_of_lists makers.new.items) }
     ensures room { KeepsMakersRoom (makers_room makers.old.items) (makers_room makers.new.items) }
+    ensures capacity { vec_capacity makers.new ≡ vec_capacity makers.old }
 {
     makers[usize::from(name.maker)][name.n as usize].restore(place, content);
 }
@@ -79,7 +81,7 @@ pub fn restore_in<const R: usize>(
 ///
 /// `SegmentsEnd` exactly if the maker has made 65,535 or more; else `NoMemory` if memory was
 /// refused, which happens only if the maker's list has no room left. No segment changes then.
-pub fn make_in<const R: usize>(
+pub fn add_segment<const R: usize>(
     makers: &mut Vec<Vec<Segment<R>>>,
     maker: u8,
     value: u64,
@@ -98,6 +100,7 @@ pub fn make_in<const R: usize>(
         ≡ contents_of_lists makers.old.items) }
     ensures room { UsesMakersRoom result true maker (makers_room makers.old.items)
         (makers_room makers.new.items) }
+    ensures capacity { vec_capacity makers.new ≡ vec_capacity makers.old }
 {
     make_next(&mut makers[usize::from(maker)], maker, value)
 }
@@ -133,7 +136,7 @@ fn make_next<const R: usize>(
 }
 
 /// Removes the maker's last segment, which must be there, and so gives its room back.
-pub fn unmake_in<const R: usize>(makers: &mut Vec<Vec<Segment<R>>>, maker: u8)
+pub fn remove_segment<const R: usize>(makers: &mut Vec<Vec<Segment<R>>>, maker: u8)
     requires small { R ≤ MOST_CELLS }
     requires has_one { 0 < segment_count makers.old.items maker }
     ensures gone { Restores everywhere (Place.Whole
@@ -141,6 +144,7 @@ pub fn unmake_in<const R: usize>(makers: &mut Vec<Vec<Segment<R>>>, maker: u8)
         (contents_of_lists makers.old.items) (contents_of_lists makers.new.items) }
     ensures room { ReturnsMakersRoom (room_used true maker) (makers_room makers.old.items)
         (makers_room makers.new.items) }
+    ensures capacity { vec_capacity makers.new ≡ vec_capacity makers.old }
 {
     remove_last(&mut makers[usize::from(maker)]);
 }
@@ -162,7 +166,7 @@ fn remove_last<const R: usize>(list: &mut Vec<Segment<R>>)
 /// # Errors
 ///
 /// Only if memory was refused for the growth. No segment changes in either case.
-pub fn make_room_in<const R: usize>(
+pub fn reserve_segments<const R: usize>(
     makers: &mut Vec<Vec<Segment<R>>>,
     maker: u8,
     more: usize,
@@ -172,6 +176,7 @@ pub fn make_room_in<const R: usize>(
     ensures unchanged { contents_of_lists makers.new.items ≡ contents_of_lists makers.old.items }
     ensures room { AddsMakersRoom result maker more (makers_room makers.old.items)
         (makers_room makers.new.items) }
+    ensures capacity { vec_capacity makers.new ≡ vec_capacity makers.old }
 {
     reserve(&mut makers[usize::from(maker)], more)
 }

@@ -12,7 +12,9 @@ ghost use Rattle.rd_ring.specs.Segments.{counters_fit};
 
 use super::array::ArrayParts;
 use super::ends::operate_on_name;
-use super::lists::{find_in, make_in, make_room_in, operate_in, restore_in, unmake_in};
+use super::lists::{
+    add_segment, find_in, operate_on_segment, remove_segment, reserve_segments, restore_to_segment,
+};
 use super::makers::{are_fresh_lists, fresh_space_lists};
 use super::parts::{lists_from_parts, parts_of_lists};
 use rd_cell::{Content, Done, Operation, Place, Refusal, SegName};
@@ -32,7 +34,7 @@ pub struct Space<const R: usize> {
 }
 
 impl<const R: usize> Space<R> {
-    ghost use Rattle.rd_segments.specs.Space.{contents, list_count, making_count, room, makers_room, head_name, tail_name, array_words};
+    ghost use Rattle.rd_segments.specs.Space.{contents, list_capacity, list_count, making_count, room, makers_room, head_name, tail_name, array_words};
 
     /// Returns a fresh space for this many actors: the root is there and fresh, the queue's two
     /// ends name it, and the array is fresh. Each maker from 0 to this number has a list.
@@ -186,9 +188,10 @@ impl<const R: usize> Space<R> {
             ≡ Err e) }
         ensures unchanged { OnErr result (contents self.new ≡ contents self.old) }
         ensures room { KeepsMakersRoom (makers_room self.old) (makers_room self.new) }
+        ensures capacity { list_capacity self.new ≡ list_capacity self.old }
     {
         match place.segment() {
-            Some(name) => operate_in(&mut self.makers, name, place, operation),
+            Some(name) => operate_on_segment(&mut self.makers, name, place, operation),
             None if place.is_of_array() => self.array.operate(place, operation),
             None => match place {
                 Place::QHead => operate_on_name(&mut self.qhead, place, operation),
@@ -216,8 +219,9 @@ impl<const R: usize> Space<R> {
         ensures unchanged { OnErr result (contents self.new ≡ contents self.old) }
         ensures room { UsesMakersRoom result true maker (makers_room self.old)
             (makers_room self.new) }
+        ensures capacity { list_capacity self.new ≡ list_capacity self.old }
     {
-        make_in(&mut self.makers, maker, value)
+        add_segment(&mut self.makers, maker, value)
     }
 
     /// Removes the maker's last segment, which must be there, and so gives its room back.
@@ -230,8 +234,9 @@ impl<const R: usize> Space<R> {
             }))) None (contents self.old) }
         ensures room { ReturnsMakersRoom (room_used true maker) (makers_room self.old)
             (makers_room self.new) }
+        ensures capacity { list_capacity self.new ≡ list_capacity self.old }
     {
-        unmake_in(&mut self.makers, maker);
+        remove_segment(&mut self.makers, maker);
     }
 
     /// Puts an old content back at a place. The place must be there, the content must be of its
@@ -242,9 +247,10 @@ impl<const R: usize> Space<R> {
         requires kind { IsTrue (can_hold place content) }
         ensures done { contents self.new ≡ restore (Some place) (Some content) (contents self.old) }
         ensures room { KeepsMakersRoom (makers_room self.old) (makers_room self.new) }
+        ensures capacity { list_capacity self.new ≡ list_capacity self.old }
     {
         match (place.segment(), place, content) {
-            (Some(name), _, _) => restore_in(&mut self.makers, name, place, content),
+            (Some(name), _, _) => restore_to_segment(&mut self.makers, name, place, content),
             (None, Place::QHead, Content::Name(name)) => self.qhead = name,
             (None, Place::QTail, Content::Name(name)) => self.qtail = name,
             (None, _, _) if place.is_of_array() => self.array.restore(place, content),
@@ -263,7 +269,8 @@ impl<const R: usize> Space<R> {
         ensures unchanged { contents self.new ≡ contents self.old }
         ensures room { AddsMakersRoom result maker more (makers_room self.old)
             (makers_room self.new) }
+        ensures capacity { list_capacity self.new ≡ list_capacity self.old }
     {
-        make_room_in(&mut self.makers, maker, more)
+        reserve_segments(&mut self.makers, maker, more)
     }
 }

@@ -4,5 +4,5 @@ use Rattle.rd_segments.proofs.space.Space.make.Goals as goal
 
 pub returns-clause-unchanged : goal.returns-clause-unchanged
 returns-clause-unchanged g c =
-    on_err_weaker c.make_in.result (same_fields c.args.self.now.makers.items c.make_in.new.makers.items c.args.self.now.qhead c.args.self.now.qtail c.args.self.now.array)
-    c.make_in.ensures.unchanged
+    on_err_weaker c.add_segment.result (same_fields c.args.self.now.makers.items c.add_segment.new.makers.items c.args.self.now.qhead c.args.self.now.qtail c.args.self.now.array)
+    c.add_segment.ensures.unchanged

@@ -6,8 +6,8 @@ use Rattle.rd_segments.proofs.space.Space.operate.Goals as goal
 
 pub returns-in-Some-clause-ok : goal.returns-in-Some-clause-ok
 returns-in-Some-clause-ok g c =
-    space_operates c.args.self.now.makers.items c.operate_in.new.makers.items c.args.self.now.qhead c.args.self.now.qtail c.args.self.now.array
-    c.in-Some.name c.args.place c.args.operation (sym c.in-Some.ensures) c.operate_in.result c.operate_in.ensures.ok
+    space_operates c.args.self.now.makers.items c.operate_on_segment.new.makers.items c.args.self.now.qhead c.args.self.now.qtail c.args.self.now.array
+    c.in-Some.name c.args.place c.args.operation (sym c.in-Some.ensures) c.operate_on_segment.result c.operate_on_segment.ensures.ok
 
 pub returns-in-QHead-clause-ok : goal.returns-in-QHead-clause-ok
 returns-in-QHead-clause-ok g c =
@@ -38,4 +38,4 @@ returns-in-None-clause-unchanged g c =
 pub returns-in-Some-clause-unchanged : goal.returns-in-Some-clause-unchanged
 returns-in-Some-clause-unchanged g c =
     let s = c.args.self.now in
-    on_err_weaker c.operate_in.result (same_fields s.makers.items c.operate_in.new.makers.items s.qhead s.qtail s.array) c.operate_in.ensures.unchanged
+    on_err_weaker c.operate_on_segment.result (same_fields s.makers.items c.operate_on_segment.new.makers.items s.qhead s.qtail s.array) c.operate_on_segment.ensures.unchanged

@@ -1,7 +1,7 @@
 use Rattle.std.proofs.Common.{arith}
 use Rattle.rd_segments.proofs.ListsLemmas.{reserved_adds, list_same}
 use Rattle.rd_segments.proofs.SegmentsLemmas.{segments_same}
-use Rattle.rd_segments.proofs.lists.make_room_in.Goals as goal
+use Rattle.rd_segments.proofs.lists.reserve_segments.Goals as goal
 
 pub returns-clause-unchanged : goal.returns-clause-unchanged
 returns-clause-unchanged g c = grind (arith, segments_same, list_same)

@@ -1,7 +1,7 @@
 use Rattle.rd_segments.proofs.Prelude.{arith}
 use Rattle.rd_segments.proofs.ListsLemmas.{segment_there, written_keeps, maker_within}
 use Rattle.rd_segments.proofs.SegmentsLemmas.{restores_in}
-use Rattle.rd_segments.proofs.lists.restore_in.Goals as goal
+use Rattle.rd_segments.proofs.lists.restore_to_segment.Goals as goal
 
 pub returns-clause-done : goal.returns-clause-done
 returns-clause-done g c =

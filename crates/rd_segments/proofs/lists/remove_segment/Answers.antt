@@ -1,7 +1,7 @@
 use Rattle.std.proofs.Common.{arith}
 use Rattle.rd_segments.proofs.ListsLemmas.{given_returns, count_within}
 use Rattle.rd_segments.proofs.SegmentsLemmas.{unmakes_in}
-use Rattle.rd_segments.proofs.lists.unmake_in.Goals as goal
+use Rattle.rd_segments.proofs.lists.remove_segment.Goals as goal
 
 pub returns-clause-gone : goal.returns-clause-gone
 returns-clause-gone g c =

@@ -1,7 +1,7 @@
 use Rattle.std.proofs.Common.{arith}
 use Rattle.rd_segments.proofs.ListsLemmas.{made_uses}
 use Rattle.rd_segments.proofs.SegmentsLemmas.{makes_in, named_in, refuses_making, making_same}
-use Rattle.rd_segments.proofs.lists.make_in.Goals as goal
+use Rattle.rd_segments.proofs.lists.add_segment.Goals as goal
 
 pub returns-clause-name : goal.returns-clause-name
 returns-clause-name g c =

@@ -1,7 +1,7 @@
 use Rattle.rd_segments.proofs.Prelude.{arith, slice_get-get_or}
 use Rattle.rd_segments.proofs.ListsLemmas.{written_keeps, found_there}
 use Rattle.rd_segments.proofs.SegmentsLemmas.{operates_in, refuses_in, unchanged_in}
-use Rattle.rd_segments.proofs.lists.operate_in.Goals as goal
+use Rattle.rd_segments.proofs.lists.operate_on_segment.Goals as goal
 
 pub returns-clause-ok : goal.returns-clause-ok
 returns-clause-ok g c =
