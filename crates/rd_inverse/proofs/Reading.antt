@@ -4,7 +4,8 @@ use Rattle.std.proofs.Common.{◌≡◌, ℕ, true, sym, subst, None}
 use Rattle.rd_step.specs.Prelude.{is_nothing, World, unstep, IsWellFormed}
 use Rattle.rd_step.specs.declared.entries.Entry.{Entry}
 use Rattle.rd_step.specs.Room.{room_returned}
-use Rattle.rd_step.specs.Step.{revert, with_actor}
+use Rattle.rd_step.specs.Step.{with_actor}
+use Rattle.rd_step.specs.Undo.{revert}
 use Rattle.rd_step.specs.Laws.{WasStepped}
 use Rattle.rd_step.proofs.Progress.{changes_only}
 use Rattle.rd_step.proofs.Removal.{can_undo, taken_out}

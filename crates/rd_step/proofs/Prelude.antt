@@ -28,7 +28,8 @@ pub use Rattle.rd_step.specs.Prelude.{Act, IsFree, MOST_STEPS, OpReply, Ran, Ref
 pub use Rattle.rd_step.specs.Room.{IsRefused, is_make, makes_segment, room_returned}
 pub use Rattle.rd_step.specs.Run.{IsRunFrom, events, preceded_by, run_entries}
 pub use Rattle.rd_step.specs.Starts.{actors_by, fresh_world, poised_world}
-pub use Rattle.rd_step.specs.Step.{CanPutBack, IsLast, step_outcome, unstep, with_actor}
+pub use Rattle.rd_step.specs.Step.{step_outcome, with_actor}
+pub use Rattle.rd_step.specs.Undo.{CanPutBack, IsLast, unstep}
 pub use Rattle.rd_step.specs.Made.{made_segment, made_segment_at}
 pub use Rattle.rd_step.specs.WellFormed.{AreMade, IsNumbered, IsWellFormed, Presence, actor_fits, belongs, content_fits, index_end, index_within, is_actor, may_be_there, names_fit, next_fits, numbers_within, place_fits, record_fits, segments_named_fit}
 pub use Rattle.rd_step.specs.declared.entries.Entry.{Entry}

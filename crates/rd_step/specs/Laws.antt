@@ -5,7 +5,8 @@ use Rattle.rd_actor.specs.declared.actors.Actor.{Actor}
 use Rattle.rd_step.specs.World.{World}
 use Rattle.rd_step.specs.declared.entries.Event.{Event}
 use Rattle.rd_step.specs.declared.entries.Entry.{Entry}
-use Rattle.rd_step.specs.Step.{Stepped, step, unstep}
+use Rattle.rd_step.specs.Step.{Stepped, step}
+use Rattle.rd_step.specs.Undo.{unstep}
 use Rattle.rd_step.specs.Run.{Ran, run}
 use Rattle.rd_step.specs.Dependence.{IsFree}
 use Rattle.rd_step.specs.WellFormed.{IsWellFormed}

@@ -1,6 +1,7 @@
 pub mod Lists
 pub mod World
 pub mod Step
+pub mod Undo
 pub mod Run
 pub mod Dependence
 pub mod WellFormed

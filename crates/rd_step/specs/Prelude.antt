@@ -9,7 +9,8 @@ pub use Rattle.rd_actor.specs.declared.actors.Act.{Act}
 pub use Rattle.rd_actor.specs.declared.actors.OpReply.{OpReply}
 pub use Rattle.rd_actor.specs.Table.{need, after}
 pub use Rattle.rd_step.specs.World.{World}
-pub use Rattle.rd_step.specs.Step.{Stepped, step, unstep}
+pub use Rattle.rd_step.specs.Step.{Stepped, step}
+pub use Rattle.rd_step.specs.Undo.{unstep}
 pub use Rattle.rd_step.specs.Run.{Ran, run}
 pub use Rattle.rd_step.specs.Dependence.{depends, IsFree, first_dependant, depends_on_any, closure, items_where_false, closure_entries, without_closure}
 pub use Rattle.rd_step.specs.Lists.{numbered, without}

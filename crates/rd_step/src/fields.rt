@@ -1,13 +1,13 @@
 //! What a step and its undoing do to the two fields of a world, the space and the actors. The rings
 //! have `R` cells, which must be at most 64.
 
-ghost use Rattle.std.specs.Prelude.{◌≡◌, ◌≢◌, ◌+◌, ◌<◌, ◌≤◌, ℕ, true, Some, None, Ok, IsSome, IsTrue, IfOk, IfErr, OnErr, length};
+ghost use Rattle.std.specs.Prelude.{◌≡◌, ◌≢◌, ◌+◌, ◌<◌, ◌≤◌, ℕ, true, Some, None, Ok, IsSome, IsTrue, IfOk, IfErr, OnErr, length, vec_capacity};
 ghost use Rattle.rd_ring.specs.Prelude.{MOST_CELLS, MOST_SEGMENTS, Make, perform, restore, everywhere, HasEffect};
 ghost use Rattle.rd_segments.specs.Room.{room_returned, UsesMakersRoom, ReturnsMakersRoom};
-ghost use Rattle.rd_segments.specs.Space.{contents, list_count, making_count, room, makers_room};
-ghost use Rattle.rd_step.specs.Step.{revert, with_actor, CanPutBack};
+ghost use Rattle.rd_segments.specs.Space.{contents, list_capacity, list_count, making_count, room, makers_room};
+ghost use Rattle.rd_step.specs.Step.{with_actor};
+ghost use Rattle.rd_step.specs.Undo.{CanPutBack};
 ghost use Rattle.rd_cell.specs.Access.{access_suits};
-ghost use Rattle.rd_step.specs.CodeWorldFields.{world_of_fields};
 ghost use Rattle.rd_step.specs.Lists.{numbered};
 ghost use Rattle.rd_step.specs.Room.{is_make, IsRefused};
 
@@ -16,41 +16,21 @@ use rd_actor::Actor;
 use rd_cell::{Access, Content, Done, Place, Refusal};
 use rd_segments::Space;
 
-/// Puts back an old record of one actor and, if a place is given, the old content of that place.
-/// The actor and the place must be there, the content must be of the place's kind, and a counter at
-/// most its end. A place without an old content must be the whole of an actor's last segment, which
-/// is removed and so gives its room back. Without a place there must be no content.
-pub fn revert_fields<const R: usize>(
-    space: &mut Space<R>,
-    actors: &mut Vec<Actor>,
-    actor: u8,
-    words: Actor,
-    place: Option<Place>,
-    content: Option<Content>,
-)
-    requires actor_there { IsSome (numbered actors.old.items actor) }
-    requires place_there { CanPutBack (contents space.old) place content }
-    requires small { R ≤ MOST_CELLS }
-    ensures done { world_of_fields space.new actors.new.items
-        ≡ revert (world_of_fields space.old actors.old.items) actor words place content }
-    ensures actors { length actors.new.items ≡ length actors.old.items }
-    ensures room { ReturnsMakersRoom (room_returned place content) (makers_room space.old)
-        (makers_room space.new) }
-{
-    put_back(space, place, content);
-    set_actor(actors, actor, words);
-}
-
 /// Puts the old content back at a place, if one is given. The place must be there, the content must
 /// be of its kind, and a counter at most its end. A place without an old content must be the whole
 /// of an actor's last segment, which is removed and so gives its room back. Without a place there
 /// must be no content, and nothing changes.
-fn put_back<const R: usize>(space: &mut Space<R>, place: Option<Place>, content: Option<Content>)
+pub fn put_back<const R: usize>(
+    space: &mut Space<R>,
+    place: Option<Place>,
+    content: Option<Content>,
+)
     requires can { CanPutBack (contents space.old) place content }
     requires small { R ≤ MOST_CELLS }
     ensures done { contents space.new ≡ restore place content (contents space.old) }
     ensures room { ReturnsMakersRoom (room_returned place content) (makers_room space.old)
         (makers_room space.new) }
+    ensures capacity { list_capacity space.new ≡ list_capacity space.old }
 {
     match (place, content) {
         (Some(place), Some(content)) => space.restore(place, content),
@@ -67,6 +47,7 @@ fn unmake_at<const R: usize>(space: &mut Space<R>, place: Place)
     ensures done { contents space.new ≡ restore (Some place) None (contents space.old) }
     ensures room { ReturnsMakersRoom (room_returned (Some place) None) (makers_room space.old)
         (makers_room space.new) }
+    ensures capacity { list_capacity space.new ≡ list_capacity space.old }
 {
     if let Some(name) = made_segment_at(Some(place), None) {
         space.unmake(name.maker);
@@ -89,6 +70,7 @@ pub fn set_actor(actors: &mut Vec<Actor>, number: u8, words: Actor)
     requires { IsSome (numbered actors.old.items number) }
     ensures done { numbered actors.new.items ≡ with_actor number words (numbered actors.old.items) }
     ensures number { length actors.new.items ≡ length actors.old.items }
+    ensures capacity { vec_capacity actors.new ≡ vec_capacity actors.old }
 {
     actors[usize::from(number) - 1] = words;
 }
@@ -114,6 +96,7 @@ pub fn perform<const R: usize>(
     ensures unchanged { OnErr result (contents space.new ≡ contents space.old) }
     ensures room { UsesMakersRoom result (is_make access) actor (makers_room space.old)
         (makers_room space.new) }
+    ensures capacity { list_capacity space.new ≡ list_capacity space.old }
 {
     match access {
         Access::NoPlace => Ok(Done::of_no_access()),
@@ -141,6 +124,7 @@ fn make_segment<const R: usize>(
     ensures unchanged { OnErr result (contents space.new ≡ contents space.old) }
     ensures room { UsesMakersRoom result true actor (makers_room space.old)
         (makers_room space.new) }
+    ensures capacity { list_capacity space.new ≡ list_capacity space.old }
 {
     let name = space.make(actor, value)?;
     Ok(Done::of_making(name))

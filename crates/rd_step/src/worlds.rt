@@ -6,7 +6,8 @@ ghost use Rattle.std.specs.List.{All};
 ghost use Rattle.rd_actor.specs.Actors.{idle};
 ghost use Rattle.rd_segments.specs.Room.{room_returned, UsesMakersRoom, ReturnsMakersRoom, AddsMakersRoom};
 ghost use Rattle.rd_segments.specs.Space.{list_count};
-ghost use Rattle.rd_step.specs.Step.{step, revert, CanPutBack};
+ghost use Rattle.rd_step.specs.Step.{step};
+ghost use Rattle.rd_step.specs.Undo.{revert, CanPutBack};
 ghost use Rattle.rd_step.specs.CodeWorldFields.{world_of_fields};
 ghost use Rattle.rd_step.specs.Starts.{fresh_world, poised_world};
 ghost use Rattle.rd_step.specs.Room.{makes_segment, IsRefused};
@@ -15,7 +16,7 @@ ghost use Rattle.rd_step.specs.World.{World as Model};
 ghost use Rattle.rd_step.specs.Parts.{world_of_parts, first_flaw, RefusesParts};
 
 use super::entries::{Entry, Event};
-use super::fields::{actor_in, perform, revert_fields, set_actor};
+use super::fields::{actor_in, perform, put_back, set_actor};
 use super::flaws::Unassembled;
 use super::parts::Parts;
 use rd_actor::{Actor, after, need};
@@ -45,7 +46,7 @@ impl<const R: usize> Drop for World<R> {
 }
 
 impl<const R: usize> World<R> {
-    ghost use Rattle.rd_step.specs.CodeWorld.{model, room, makers_room};
+    ghost use Rattle.rd_step.specs.CodeWorld.{model, room, makers_room, capacities};
 
     /// Returns the fresh world: the root is the only segment and is fresh, and this many actors,
     /// which must be 1 to 16, are idle.
@@ -218,6 +219,7 @@ impl<const R: usize> World<R> {
         ensures unchanged { OnErr result (model self.new ≡ model self.old) }
         ensures room { UsesMakersRoom result (makes_segment (model self.old) event) event.actor
             (makers_room self.old) (makers_room self.new) }
+        ensures capacities { capacities self.new ≡ capacities self.old }
     {
         let actor = match actor_in(&self.actors, event.actor) {
             None => return Err(Refusal::NoActor),
@@ -252,6 +254,7 @@ impl<const R: usize> World<R> {
         ensures room { UsesMakersRoom (Ok entry.now)
             (makes_segment (model self.old) entry.now.event) entry.now.event.actor
             (makers_room self.old) (makers_room self.new) }
+        ensures capacities { capacities self.new ≡ capacities self.old }
     {
         let actor = entry.event.actor;
         let (next, _) = after::<R>(&entry.old_actor, entry.event.act, entry.answer);
@@ -287,15 +290,10 @@ impl<const R: usize> World<R> {
         ensures done { model self.new ≡ revert (model self.old) actor words place content }
         ensures room { ReturnsMakersRoom (room_returned place content) (makers_room self.old)
             (makers_room self.new) }
+        ensures capacities { capacities self.new ≡ capacities self.old }
     {
-        revert_fields(
-            &mut self.space,
-            &mut self.actors,
-            actor,
-            words,
-            place,
-            content,
-        );
+        put_back(&mut self.space, place, content);
+        set_actor(&mut self.actors, actor, words);
     }
 
     /// Gives an actor, which must be there, room for this many more segments; making them then
@@ -311,6 +309,7 @@ impl<const R: usize> World<R> {
         ensures unchanged { model self.new ≡ model self.old }
         ensures room { AddsMakersRoom result actor more (makers_room self.old)
             (makers_room self.new) }
+        ensures capacities { capacities self.new ≡ capacities self.old }
     {
         self.space.make_room(actor, more)?;
         Ok(())
