@@ -1,7 +1,6 @@
 pub mod Prelude
 pub mod Elements
 pub mod Results
-mod CommonBeginning
 pub mod IndexLists
 pub mod IndexTable
 pub mod IndexKeys
@@ -13,17 +12,6 @@ pub mod IndexMoves
 pub mod IndexCuts
 pub mod LastPositions
 pub mod IndexWriters
-pub mod FirstOfActor
-pub mod TouchedKeys
-pub mod TakingOut
-pub mod TakingOn
-pub mod KeepingOrder
-pub mod KeysMeet
 pub mod Sharing
-pub mod Exactness
-pub mod RunsAgree
-pub mod Converse
-pub mod Reordering
-pub mod ComparingLemmas
-pub mod ComparedSteps
 pub mod Closures
+pub mod JoinedRuns

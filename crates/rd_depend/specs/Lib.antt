@@ -1,6 +1,4 @@
-pub mod Beginnings
 pub mod Moved
-pub mod Equivalence
 pub mod Keys
 pub mod Lists
 pub mod Tables
@@ -9,7 +7,4 @@ pub mod Probes
 pub mod Changes
 pub mod Writers
 pub mod Sharing
-pub mod Reordering
 pub mod KeyLaws
-pub mod KeepingOrder
-pub mod ComparedSteps

@@ -11,7 +11,7 @@ ghost use Rattle.rd_step.specs.Prelude.{MOST_STEPS};
 
 mod changing;
 mod finding;
-pub(crate) mod keys;
+mod keys;
 mod lists;
 mod positions;
 mod probes;
@@ -19,6 +19,7 @@ mod searching;
 mod table;
 mod writers;
 
+pub use keys::{Key, is_value_written};
 pub use probes::Probes;
 use std::alloc::Global;
 use table::Table;

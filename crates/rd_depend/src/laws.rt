@@ -1,15 +1,11 @@
-//! The laws of dependence, of closures and of equivalence. A law is the contract of a function that
-//! does nothing.
+//! The laws of dependence and of closures. A law is the contract of a function that does nothing.
 
-ghost use Rattle.std.specs.Prelude.{◌≡◌, ◌≤◌, ◌↔◌, ◌⊎◌, ℕ, true, List, length, None, Some, Ok};
-ghost use Rattle.rd_step.specs.declared.entries.Event.{Event};
+ghost use Rattle.std.specs.Prelude.{◌≡◌, ◌≤◌, ◌↔◌, ◌⊎◌, ℕ, true, List, length, None, Some};
 ghost use Rattle.rd_step.specs.declared.entries.Entry.{Entry as SomeEntry};
-ghost use Rattle.rd_step.specs.Prelude.{World, Ran, closure, run, depends};
+ghost use Rattle.rd_step.specs.Prelude.{closure, depends};
 ghost use Rattle.rd_step.specs.Dependence.{IsInClosure, AreLoneUndos, number_after_undos};
 ghost use Rattle.rd_step.specs.Lists.{numbered};
-ghost use Rattle.rd_step.specs.Equivalence.{IsEquivalent};
 ghost use Rattle.rd_depend.specs.Sharing.{ShareWrittenPlace};
-ghost use Rattle.rd_depend.specs.Reordering.{IsReordered};
 
 /// Two entries depend on each other exactly if they have the same actor, or if both touched a place
 /// of the map that at least one of them wrote.
@@ -32,31 +28,4 @@ pub fn lone_undos_that_take_a_step_out_take_its_closure_out()
     ensures { (entries : List SomeEntry) (ns : List ℕ) (k j : ℕ) → AreLoneUndos ns entries
         → number_after_undos ns k ≡ None
         → IsInClosure entries k j → number_after_undos ns j ≡ None }
-{}
-
-/// A list of events that runs is causally equivalent to itself.
-#[tactic(auto, using(rd_step::proofs::Equivalence::equivalence_reflexive))]
-pub fn equivalence_is_reflexive()
-    ensures { (w : World) (es : List Event) (r : Ran) → run w es ≡ Ok r → IsEquivalent w es es }
-{}
-
-/// Causal equivalence of two runs from one start is symmetric.
-pub fn equivalence_is_symmetric()
-    ensures { (w : World) (es fs : List Event) (r q : Ran) → run w es ≡ Ok r → run w fs ≡ Ok q
-        → IsEquivalent w es fs
-        → IsEquivalent w fs es }
-{}
-
-/// Causal equivalence of runs from one start is transitive.
-pub fn equivalence_is_transitive()
-    ensures { (w : World) (es fs gs : List Event) (r q p : Ran) → run w es ≡ Ok r → run w fs ≡ Ok q
-        → run w gs ≡ Ok p
-        → IsEquivalent w es fs → IsEquivalent w fs gs → IsEquivalent w es gs }
-{}
-
-/// A list of events is causally equivalent to one that runs exactly if it comes from that one by
-/// swapping neighbours that do not depend on each other, one pair after another.
-pub fn equivalence_is_reordering()
-    ensures { (w : World) (es fs : List Event) (r : Ran) → run w es ≡ Ok r → IsEquivalent w es fs
-        ↔ IsReordered w es fs }
 {}

@@ -1,5 +1,5 @@
-//! Dependence of steps: which step depends on which, the first later step that depends on a given
-//! one, and whether two runs are causally equivalent.
+//! Dependence of steps: which step depends on which, and the first later step that depends on a
+//! given one.
 //!
 //! Two steps depend on each other if they have the same actor, or if both touched a place that one
 //! of them wrote. That dependants are undone first follows Danos and Krivine 2004; the places and
@@ -9,12 +9,8 @@
 #![tactic(auto)]
 
 mod dependence;
-mod equivalence;
 mod index;
-mod keeping_order;
 pub mod laws;
-mod steps_by_actor;
 
 pub use dependence::{depends, first_dependant};
-pub use equivalence::are_equivalent;
-pub use index::{DependIndex, Probes};
+pub use index::{DependIndex, Key, Probes, is_value_written};

@@ -5,7 +5,7 @@ pub use Rattle.rd_cell.proofs.Prelude.{All, All-drop, All-take, Bool, Err, IfErr
 pub use Rattle.rd_step.proofs.Prelude.{Content, IsFree, IsRunFrom, IsTakenOut, IsWellFormed, MOST_STEPS, Place, Ran, Refusal, Stepped, WasStepped, World, after, and_then, closure, closure_entries, depends, depends_on_any, events, first_dependant, items_where_false, made_segment, made_segment_at, makes_segment, model, numbered, preceded_by, result_map, room_returned, room_used, run, run_entries, step, unstep, without, without_closure}
 pub use Rattle.rd_depend.proofs.Prelude.{Entry, Event, GivesRoom, HasRoomFor, HasRoomInstead, IsIndexOf, Middle, SegName, beginning, closure_from, commutes, first_step, last_position, middle, moved_to, run-cons, runs_to, is_listed_for, undoes, writes_to}
 pub use Rattle.rd_depend.proofs.Results.{err_then, not_refused, ok_then}
-pub use Rattle.rd_depend.proofs.Reordering.{run_joined}
+pub use Rattle.rd_depend.proofs.JoinedRuns.{run_joined}
 pub use Rattle.rd_depend.specs.declared.index.DependIndex.{DependIndex}
 pub use Rattle.rd_step.proofs.PassedUp.{error_passed_up, fact_passed_up}
 pub use Rattle.rd_step.proofs.Removal.{run_keeps_well_formed, run_stays_actor, taken_out}

@@ -2,7 +2,7 @@
 use Rattle.std.specs.Prelude.{◌≡◌, ◌↔◌, ℕ, ◌<◌, List, [], ◌∷◌, length}
 use Rattle.std.specs.List.{Contains}
 use Rattle.rd_step.specs.declared.entries.Event.{Event}
-use Rattle.rd_depend.specs.Beginnings.{Begins}
+use Rattle.rd_equivalence.specs.Beginnings.{Begins}
 use Rattle.rd_marks.specs.BookState.{Mark}
 
 -- the list is not empty, and some mark's events begin with it

@@ -5,7 +5,7 @@ use Rattle.std.specs.Set.{remove_key}
 use Rattle.rd_step.specs.Prelude.{World, Refusal, result_map}
 use Rattle.rd_step.specs.Equivalence.{IsEquivalent}
 use Rattle.rd_step.specs.declared.entries.Event.{Event}
-use Rattle.rd_depend.specs.Beginnings.{Begins, NeitherBegins}
+use Rattle.rd_equivalence.specs.Beginnings.{Begins, NeitherBegins}
 use Rattle.rd_journal.specs.State.{State}
 use Rattle.rd_step.specs.Lists.{numbered}
 use Rattle.rd_marks.specs.declared.names.MarkName.{MarkName}

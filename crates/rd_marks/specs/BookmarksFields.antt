@@ -4,7 +4,7 @@ use Rattle.std.specs.Prelude.{◌≡◌, ℕ, ◌≤◌, List, map, length}
 use Rattle.std.specs.List.{All}
 use Rattle.rd_step.specs.Prelude.{World, MOST_STEPS}
 use Rattle.rd_step.specs.declared.entries.Entry.{Entry}
-use Rattle.rd_depend.specs.Beginnings.{Begins}
+use Rattle.rd_equivalence.specs.Beginnings.{Begins}
 use Rattle.rd_journal.specs.Journal.{IsRunFrom}
 use Rattle.rd_marks.specs.declared.names.MarkName.{MarkName}
 use Rattle.rd_marks.specs.declared.stretches.Node.{Node}

@@ -15,7 +15,7 @@ mod saving;
 ghost use Rattle.std.specs.Prelude.{◌≡◌, ◌<◌, ◌≤◌, ◌⊎◌, [], Ok, OnErr, IfErr};
 ghost use Rattle.rd_step.specs.Prelude.{result_map};
 ghost use Rattle.rd_step.specs.Run.{events};
-ghost use Rattle.rd_depend.specs.Beginnings.{Begins};
+ghost use Rattle.rd_equivalence.specs.Beginnings.{Begins};
 ghost use Rattle.rd_journal.specs.Sessions.{state, track, MayRefuse};
 ghost use Rattle.rd_marks.specs.BookmarksFields.{AreRuns};
 ghost use Rattle.rd_marks.specs.Bookmarks.{named_entries_in, here_entries};

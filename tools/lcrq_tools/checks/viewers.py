@@ -20,7 +20,7 @@ from lcrq_tools import program
 from lcrq_tools.faults import Parser
 
 USES = "rd_step rd_journal rd_marks rd_lock rd_desk".split()
-BELOW = "rd_cell rd_ring rd_actor rd_segments rd_inverse rd_depend rd_origin".split() + USES
+BELOW = "rd_cell rd_ring rd_actor rd_segments rd_inverse rd_depend rd_equivalence rd_origin".split() + USES
 
 PROGRAM = Path(__file__).with_suffix(".rattle")  # `rt ci` takes a file that ends with .rt for one of a crate
 

@@ -15,7 +15,7 @@ use std::hash::{Hash, Hasher};
 
 /// What a list of positions is kept for, apart from the actors: a place or a segment.
 #[derive(Clone, Copy, Debug)]
-pub(crate) enum Key {
+pub enum Key {
     /// For the steps at this place; if it is a half of a cell, also for those at the cell.
     At(Place),
     /// For the steps at the places of this segment, and at the whole of it.
@@ -24,14 +24,14 @@ pub(crate) enum Key {
 
 impl Key {
     /// Returns the key of the place itself; for a cell, the key of its index half.
-    pub(crate) fn of_place(place: Place) -> Key
+    pub fn of_place(place: Place) -> Key
         ensures { result ≡ Key.At (index_half place) }
     {
         Key::At(place.index_half())
     }
 
     /// Returns the key of the place's value half; `None` if the place isn't a cell.
-    pub(crate) fn of_value(place: Place) -> Option<Key>
+    pub fn of_value(place: Place) -> Option<Key>
         ensures { result ≡ value_key_of_place place }
     {
         match place {
@@ -42,7 +42,7 @@ impl Key {
 
     /// Returns the key of the place's segment, also for the whole of a segment; `None` for the
     /// queue's ends and the array.
-    pub(crate) fn of_segment(place: Place) -> Option<Key>
+    pub fn of_segment(place: Place) -> Option<Key>
         ensures { result ≡ segment_key_of_place place }
     {
         match place {
@@ -95,7 +95,7 @@ impl Key {
 }
 
 /// Whether an access to a cell that wrote this part of it wrote the value half.
-pub(crate) fn is_value_written(wrote: Wrote) -> bool
+pub fn is_value_written(wrote: Wrote) -> bool
     ensures { result ≡ is_value_written wrote }
 {
     matches!(wrote, Wrote::Place)

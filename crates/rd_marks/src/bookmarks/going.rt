@@ -1,7 +1,7 @@
 //! Going to a bookmark.
 
 ghost use Rattle.std.specs.Prelude.{◌≡◌, ◌⊎◌, [], IsOk, OnOk, IfErr, OnErr};
-ghost use Rattle.rd_depend.specs.Beginnings.{Begins};
+ghost use Rattle.rd_equivalence.specs.Beginnings.{Begins};
 ghost use Rattle.rd_journal.specs.Journal.{events};
 ghost use Rattle.rd_journal.specs.Sessions.{state, track, journal, LacksRoomForEvents};
 ghost use Rattle.rd_marks.specs.BookmarksFields.{AreEntriesOfRun};

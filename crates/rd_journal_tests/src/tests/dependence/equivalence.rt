@@ -3,7 +3,8 @@
 
 use super::index::Draws;
 use rd_actor::{Act, Pc};
-use rd_depend::{are_equivalent, depends};
+use rd_depend::depends;
+use rd_equivalence::are_equivalent;
 use rd_step::{Entry, Event, World};
 use std::alloc::Global;
 use std::test::Fail;

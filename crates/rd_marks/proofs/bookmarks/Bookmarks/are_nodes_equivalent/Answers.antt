@@ -1,6 +1,6 @@
 use Rattle.rd_marks.proofs.Prelude.{◌≡◌, ◌∙◌, ℕ, ◌≤◌, take, arith, fact_passed_up, NeitherBegins, DecidesEquivalence, Node, entries_at, stretches_in, IsWithin, events, IfOk-weaker, ◌⊎◌, Bool, ◌==◌, sym, ap, List, [], ◌∷◌, ◌++◌, length, drop, length-append, eqb-true, eq-eqb, take_all, World, IsEquivalent, Event, Entry, Begins, equivalence_reflexive, runs_to, take_rest}
 use Rattle.rd_marks.proofs.Starting.{entries_length, begins_shorter, event_length}
-use Rattle.rd_depend.proofs.Exactness.{right_behind}
+use Rattle.rd_equivalence.proofs.Exactness.{right_behind}
 use Rattle.rd_marks.proofs.bookmarks.Bookmarks.are_nodes_equivalent.Goals.{After-common_len-shared, then-shared-one-via-then-shared-one, then-shared-one-via-else-shared-one+then-shared-other}
 use Rattle.rd_marks.proofs.bookmarks.Bookmarks.are_nodes_equivalent.Goals as goal
 

@@ -1,0 +1,5 @@
+pub mod Beginnings
+pub mod Equivalence
+pub mod Reordering
+pub mod KeepingOrder
+pub mod ComparedSteps
