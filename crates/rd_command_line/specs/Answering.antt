@@ -22,11 +22,11 @@ use Rattle.rd_program.specs.Viewers.{ViewsOver}
 use Rattle.rd_program.specs.declared.setups.Done.{Done}
 use Rattle.rd_program.specs.declared.setups.Done.TheVariants.{Counted, Lived}
 use Rattle.rd_program.specs.declared.setups.ViewExtras.{ViewExtras}
-use Rattle.rd_command_line.specs.declared.requests.Options.{Options}
-use Rattle.rd_command_line.specs.declared.requests.Options.TheVariants.{Run, View, Load}
-use Rattle.rd_command_line.specs.declared.requests.OptionsFault.{OptionsFault}
+use Rattle.rd_options.specs.declared.requests.Options.{Options}
+use Rattle.rd_options.specs.declared.requests.Options.TheVariants.{Run, View, Load}
+use Rattle.rd_options.specs.declared.requests.OptionsFault.{OptionsFault}
 use Rattle.rd_command_line.specs.Outcomes.{Ends, Outcome}
-use Rattle.rd_command_line.specs.CommandLine.{GivesFault, GivesOptions}
+use Rattle.rd_options.specs.CommandLine.{GivesFault, GivesOptions}
 
 -- the text is all that an opened file has left to give, as `remaining` says; where `remaining` says
 -- nothing, it may be any text

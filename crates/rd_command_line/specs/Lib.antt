@@ -1,4 +1,2 @@
-pub mod Options
-pub mod CommandLine
 pub mod Outcomes
 pub mod Answering

@@ -6,8 +6,8 @@ use Rattle.rd_program.specs.declared.faults.ProgramFault.{ProgramFault}
 use Rattle.rd_program.specs.declared.faults.ProgramFault.TheVariants as program
 use Rattle.rd_program.specs.declared.setups.Done.{Done}
 use Rattle.rd_program.specs.Endings.{EndsAs, TakesUnlessFailed}
-use Rattle.rd_command_line.specs.declared.requests.OptionsFault.{OptionsFault}
-use Rattle.rd_command_line.specs.declared.requests.OptionsFault.TheVariants.{Shown, Refused, TooManyFiles, SharedFile, NoMemory}
+use Rattle.rd_options.specs.declared.requests.OptionsFault.{OptionsFault}
+use Rattle.rd_options.specs.declared.requests.OptionsFault.TheVariants.{Shown, Refused, TooManyFiles, SharedFile, NoMemory}
 
 -- the outcome of a command line: the result of doing what it asks for, or why it gives no options
 abbrev pub Outcome : Type 0

@@ -9,14 +9,13 @@ ghost use Rattle.rd_script.specs.Ring.{ring_length};
 ghost use Rattle.rd_script.specs.AnyBook.{any_state, fresh_state};
 ghost use Rattle.rd_program.specs.declared.faults.ProgramFault.TheVariants.{Read};
 ghost use Rattle.rd_program.specs.Program.{IsReadOrNoMemory};
-ghost use Rattle.rd_command_line.specs.Options.{AreInRange};
+ghost use Rattle.rd_options.specs.Options.{AreInRange};
 ghost use Rattle.rd_command_line.specs.Outcomes.{is_shown};
 ghost use Rattle.rd_command_line.specs.Answering.{AreWholeTexts, FollowsWords, FollowsOptions, FollowsWordsOrFault, LoadsFile, OpensBook, ResumesFile, RunsCommandLine, PlaysFile, PlaysFileOrInput, ViewsFiles, ViewsFilesAfter, ViewsFilesFrom, ViewsFilesLive, counted, lived};
 
-use super::command_line::options;
 use super::outcomes::{Outcome, show_outcome};
-use super::requests::{Options, OptionsFault};
 use super::terminals::file_terminals;
+use rd_options::{Options, OptionsFault, options};
 use rd_program::{
     Done, ProgramFault, Setup, ViewExtras, load_book, play, read_whole_text, resume, view,
     view_book, view_live,

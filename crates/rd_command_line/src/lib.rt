@@ -7,12 +7,9 @@
 #![tactic(auto)]
 
 mod answering;
-mod command_line;
 mod outcomes;
-mod requests;
 mod terminals;
 
 pub use answering::{follow_words, run_command_line};
-pub use command_line::{command_line_words, not_utf8_fault, options};
 pub use outcomes::{Outcome, show_outcome};
-pub use requests::{Options, OptionsFault};
+pub use rd_options::{Options, OptionsFault, command_line_words, not_utf8_fault, options};

@@ -6,7 +6,7 @@ ghost use Rattle.rd_script.specs.Streams.{sink_stream};
 ghost use Rattle.rd_program.specs.Endings.{TakesUnlessFailed};
 ghost use Rattle.rd_command_line.specs.Outcomes.{Ends, is_shown};
 
-use super::requests::OptionsFault;
+use rd_options::OptionsFault;
 use rd_program::{Done, ProgramFault};
 use rd_script::{Sink, write_all};
 use std::alloc::Global;

@@ -1,6 +1,6 @@
 use Rattle.std.proofs.Common.{◌≡◌, map, take}
 use Rattle.std.specs.Prelude.{string_bytes}
-use Rattle.rd_command_line.specs.Options.{replies_name}
+use Rattle.rd_options.specs.Options.{replies_name}
 use Rattle.rd_command_line.proofs.terminals.file_terminals.Given as goal
 
 -- the terminals are those of the names before this one
