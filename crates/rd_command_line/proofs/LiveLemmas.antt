@@ -10,15 +10,15 @@ use Rattle.rd_script.specs.declared.devices.sources.Source.{Ghosts as SourceOf}
 use Rattle.rd_script.specs.declared.devices.sinks.Sink.{Ghosts as SinkOf}
 use Rattle.rd_script.specs.declared.faults.ScriptFault.{ScriptFault}
 use Rattle.rd_script.specs.Streams.{Stream}
-use Rattle.rd_view.specs.declared.live.LiveEnd.{LiveEnd}
 use Rattle.rd_view.specs.declared.live.ViewerEnd.{ViewerEnd}
 use Rattle.rd_view.specs.declared.live.ViewerEnd.TheVariants.{Ended, Stopped, NotStarted}
 use Rattle.rd_view.specs.declared.faults.ViewFault.TheVariants as view
-use Rattle.rd_view.specs.Live.{AreLiveEnds, Conversed, IsLive, IsLiveEnd, NumberedLine}
+use Rattle.rd_view.specs.Live.{AreLiveEnds, Conversed, IsLiveEnd, NumberedLine}
 use Rattle.rd_program.specs.declared.faults.ProgramFault.{ProgramFault}
 use Rattle.rd_program.specs.declared.faults.ProgramFault.TheVariants as program
+use Rattle.rd_program.specs.declared.setups.Left.{Left}
 use Rattle.rd_program.specs.declared.setups.ViewExtras.{ViewExtras}
-use Rattle.rd_program.specs.Live.{IsLiveReport, ViewsLive}
+use Rattle.rd_program.specs.Live.{EndedLive, ViewsLive}
 
 -- `opens` is what a terminal opens, `named` what any terminal of a name opens
 module _ {S T R W : Type 0} (name : S → T) (opens : S → R → W → Type 0) (named : T → R → W → Type 0) (source : SourceOf R) (sink : SinkOf W) (as_named : (s : S) (r : R) (w : W) → opens s r w → named (name s) r w) where
@@ -49,26 +49,17 @@ module _ {S T R W : Type 0} (name : S → T) (opens : S → R → W → Type 0) 
     live_ends viewer (s ∷ ss) (e ∷ es) are = (live_end viewer s e are.0, live_ends (suc viewer) ss es are.1)
 
   module _ (opened : BookState) (ss : List S) (extras : ViewExtras) where
-    -- viewers at terminals left what viewers at their names left
-    is_live : {N : ℕ} (live : LiveEnd N) → IsLive opens source sink opened ss live → IsLive named source sink opened (map name ss) live
-    is_live live is = record {
-      legal = is.legal;
-      leaves = is.leaves;
-      named = rw (length-map ss name) is.named;
-      ended = live_ends opened (entries live.history) 1 ss live.ends.items is.ended;
-    }
-
-    -- the report on viewers at terminals is the one on viewers at their names
-    report : (ends : List ViewerEnd) (text : List ℕ) → IsLiveReport opens source sink opened ss extras ends text → IsLiveReport named source sink opened (map name ss) extras ends text
-    report ends text is = record { N = is.N; live = is.live; lived = is_live is.live is.lived; ended = is.ended; is_text = is.is_text }
+    -- viewers at terminals ended so and left this, as viewers at their names did
+    ended_live : (ends : List ViewerEnd) (left : Left) → EndedLive opens source sink opened ss ends left → EndedLive named source sink opened (map name ss) ends left
+    ended_live ends left is = record { leads = is.leads; named = rw (length-map ss name) is.named; ended = live_ends opened (entries left.history) 1 ss ends is.ended }
 
     -- what became of viewers at terminals became of viewers at their names
-    pub views_named : (s : Stream) (result : Result (Vec ViewerEnd Global) ProgramFault) → ViewsLive opens source sink opened ss extras s result → ViewsLive named source sink opened (map name ss) extras s result
-    views_named s (Ok ends) done = (done.0, report ends.items done.0 done.1, done.2, done.3)
-    views_named s (Err (program.View view.Write)) done = (done.0, done.1, report done.0 done.1 done.2, done.3, done.4)
-    views_named s (Err (program.View view.NoMemory)) done = done
-    views_named s (Err (program.View (view.Busy words))) done = done
-    views_named s (Err program.NoMemory) done = done
-    views_named s (Err program.Read) done = done
-    views_named s (Err (program.Script fault)) done = done
-    views_named s (Err (program.Trace fault)) done = done
+    pub views_named : (s : Stream) (result : Result (Vec ViewerEnd Global × Left) ProgramFault) → ViewsLive opens source sink opened ss extras s result → ViewsLive named source sink opened (map name ss) extras s result
+    views_named s (Ok done) is = (ended_live done.0.items done.1 is.0, is.1)
+    views_named s (Err (program.View view.Write)) is = (is.0, is.1, ended_live is.0 is.1 is.2, is.3)
+    views_named s (Err (program.View view.NoMemory)) is = is
+    views_named s (Err (program.View (view.Busy words))) is = is
+    views_named s (Err program.NoMemory) is = is
+    views_named s (Err program.Read) is = is
+    views_named s (Err (program.Script fault)) is = is
+    views_named s (Err (program.Trace fault)) is = is

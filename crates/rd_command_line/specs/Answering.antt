@@ -6,21 +6,24 @@ use Rattle.std.specs.Prelude.{◌≡◌, ◌≢◌, ◌⊎◌, ℕ, Bool, true, 
 use Rattle.std.specs.Borrow.{Bor}
 use Rattle.std.specs.Global.{Global}
 use Rattle.clap.specs.Walk.{Text}
+use Rattle.rd_journal.specs.Journal.{Journal}
 use Rattle.rd_marks.specs.BookState.{BookState}
+use Rattle.rd_desk.specs.Histories.{entries}
 use Rattle.rd_script.specs.declared.devices.sources.ReadSource.{ReadSource}
 use Rattle.rd_script.specs.declared.devices.sinks.WriteSink.{WriteSink}
 use Rattle.rd_script.specs.Streams.{Devices, IsUnused, Stream, reader_source, writer_sink}
 use Rattle.rd_script.specs.Ring.{ring_length}
-use Rattle.rd_script.specs.AnyBook.{any_state, fresh_state}
+use Rattle.rd_script.specs.AnyBook.{any_journal, any_state, fresh_state}
 use Rattle.rd_script.specs.declared.any_book.AnyBook.{AnyBook}
 use Rattle.rd_program.specs.declared.faults.ProgramFault.{ProgramFault}
 use Rattle.rd_program.specs.declared.faults.ProgramFault.TheVariants as program
-use Rattle.rd_program.specs.Program.{IsReadOrNoMemory, LoadsBook, PlaysScript, ResumesTrace, AreUnused}
+use Rattle.rd_program.specs.Program.{IsReadOrNoMemory, LoadsBook, PlaysOver, AreUnused}
 use Rattle.rd_view.specs.declared.live.ViewerEnd.{ViewerEnd}
 use Rattle.rd_program.specs.Live.{ViewsLive}
 use Rattle.rd_program.specs.Viewers.{ViewsOver}
 use Rattle.rd_program.specs.declared.setups.Done.{Done}
 use Rattle.rd_program.specs.declared.setups.Done.TheVariants.{Counted, Lived}
+use Rattle.rd_program.specs.declared.setups.Left.{Left}
 use Rattle.rd_program.specs.declared.setups.ViewExtras.{ViewExtras}
 use Rattle.rd_options.specs.declared.requests.Options.{Options}
 use Rattle.rd_options.specs.declared.requests.Options.TheVariants.{Run, View, Load}
@@ -41,29 +44,31 @@ AreWholeTexts remaining (opened ∷ files) [] = ⊥
 AreWholeTexts remaining (opened ∷ files) (text ∷ texts) =
     IsWholeText remaining opened text.items × AreWholeTexts remaining files texts
 
--- a file could not be opened (`Read`), and the output was not used; or it was opened, and the
--- script that is all it has left to give was played over a book in this state
-abbrev pub PlaysFile : {F : Type 0} → (F → Option (List ℕ)) → BookState → Bool → Stream → Result ℕ ProgramFault → Type 0
-PlaysFile {F} remaining before traced output result =
-    ((result ≡ Err program.Read) × IsUnused output)
-    ⊎ ((opened : F) × (file : Stream) × (file.before ≡ remaining opened)
-    × PlaysScript before traced (record { input = file; output = output }) result)
+-- the result of opening the script of a name: no file for `-`, which stands for the input; for any
+-- other name a file, or `Read` if it can't be opened
+abbrev pub OpensScript : {F : Type 0} → Text → Result (Option F) ProgramFault → Type 0
+OpensScript name (Ok None) = name ≡ codes "-"
+OpensScript name (Ok (Some opened)) = name ≢ codes "-"
+OpensScript name (Err fault) = (name ≢ codes "-") × (fault ≡ program.Read)
 
--- a file was not read whole (`IsReadOrNoMemory` has the faults), and neither stream was used; or it
--- was opened, and its whole text was resumed with the script on the input
-abbrev pub ResumesFile : {F : Type 0} → (F → Option (List ℕ)) → Bool → Devices → Result ℕ ProgramFault → Type 0
-ResumesFile {F} remaining traced d result =
-    (((fault : ProgramFault) × (result ≡ Err fault) × IsReadOrNoMemory fault) × AreUnused d)
-    ⊎ ((opened : F) × (text : List ℕ) × IsWholeText remaining opened text × ResumesTrace text traced d result)
+-- what playing a script did over a book, which went from `before` to `after` and keeps the journal
+-- `kept`. With a file, the script was all that the file has left to give, and the input was not
+-- used; without one, the script was on the input
+abbrev pub PlaysFileOrInput : {F : Type 0} → (F → Option (List ℕ)) → Option F → BookState → BookState → Journal → Bool → Devices → Result ℕ ProgramFault → Type 0
+PlaysFileOrInput remaining None before after kept traced d result = PlaysOver before after kept traced d result
+PlaysFileOrInput remaining (Some opened) before after kept traced d result =
+    IsUnused d.input × ((file : Stream) × (file.before ≡ remaining opened) × PlaysOver before after kept traced (record d { input = file }) result)
 
--- a file was not read whole (`IsReadOrNoMemory` has the faults), and the output was not used; or
--- this many files were opened, and their whole texts were viewed as scripts over a book in this
--- state, with these extras
-abbrev pub ViewsFiles : {F : Type 0} → (F → Option (List ℕ)) → ℕ → BookState → ViewExtras → Stream → Result ℕ ProgramFault → Type 0
-ViewsFiles {F} remaining count before extras output result =
-    (((fault : ProgramFault) × (result ≡ Err fault) × IsReadOrNoMemory fault) × IsUnused output)
-    ⊎ ((files : List F) × (scripts : List (Vec ℕ Global)) × (length files ≡ count)
-    × AreWholeTexts remaining files scripts × ViewsOver before scripts extras output result)
+-- what `run` did for the script of a name and a book in the state `before`. Its file could not be
+-- opened (`Read`), and neither stream was used. Or the script was opened; then memory for the book
+-- was refused (`NoMemory`), and neither stream was used, or the script was played over the book,
+-- which became the book `last`
+abbrev pub RunsFile : {F : Type 0} → (F → Option (List ℕ)) → Text → BookState → Bool → Devices → Result ℕ ProgramFault → Type 0
+RunsFile {F} remaining name before traced d result =
+    ((name ≢ codes "-") × (result ≡ Err program.Read) × AreUnused d)
+    ⊎ ((file : Option F) × OpensScript name (Ok file)
+    × (((result ≡ Err program.NoMemory) × AreUnused d)
+    ⊎ ((last : AnyBook) × PlaysFileOrInput remaining file before (any_state last) (any_journal last) traced d result)))
 
 -- the result of loading the trace in a file: the file was not read whole (`IsReadOrNoMemory` has the
 -- faults); or it was opened, and its whole text was loaded
@@ -72,18 +77,12 @@ LoadsFile {F} remaining result =
     ((fault : ProgramFault) × (result ≡ Err fault) × IsReadOrNoMemory fault)
     ⊎ ((opened : F) × (text : List ℕ) × IsWholeText remaining opened text × LoadsBook text result)
 
--- the trace in a file was not loaded, and the output was not used; or it was loaded as a book, and
--- then this many files were viewed over it, with these extras
-abbrev pub ViewsFilesFrom : {F : Type 0} → (F → Option (List ℕ)) → ℕ → ViewExtras → Stream → Result ℕ ProgramFault → Type 0
-ViewsFilesFrom remaining count extras output result =
-    ((fault : ProgramFault) × (result ≡ Err fault) × LoadsFile remaining (Err fault) × IsUnused output)
-    ⊎ ((book : AnyBook) × LoadsFile remaining (Ok book) × ViewsFiles remaining count (any_state book) extras output result)
-
--- what `view` did: without the name of a trace to start with, it viewed this many files over a book
--- in this state; with one, over the book of the trace in a file
-abbrev pub ViewsFilesAfter : {F : Type 0} → (F → Option (List ℕ)) → Option (Bor Text) → ℕ → BookState → ViewExtras → Stream → Result ℕ ProgramFault → Type 0
-ViewsFilesAfter remaining None count before extras output result = ViewsFiles remaining count before extras output result
-ViewsFilesAfter remaining (Some name) count before extras output result = ViewsFilesFrom remaining count extras output result
+-- what `load` did: the trace in a file was not loaded, and neither stream was used; or it was loaded
+-- as a book, and the script on the input was played over it, which led to the book `last`
+abbrev pub ResumesFile : {F : Type 0} → (F → Option (List ℕ)) → Bool → Devices → Result ℕ ProgramFault → Type 0
+ResumesFile remaining traced d result =
+    ((fault : ProgramFault) × (result ≡ Err fault) × LoadsFile remaining (Err fault) × AreUnused d)
+    ⊎ ((book : AnyBook) × LoadsFile remaining (Ok book) × (last : AnyBook) × PlaysOver (any_state book) (any_state last) (any_journal last) traced d result)
 
 -- the result of opening a book: without the name of a trace to start with, a book in this state,
 -- or `NoMemory`; with one, what loading the trace in a file gives
@@ -91,6 +90,17 @@ abbrev pub OpensBook : {F : Type 0} → (F → Option (List ℕ)) → Option (Bo
 OpensBook remaining None before (Ok book) = any_state book ≡ before
 OpensBook remaining None before (Err fault) = fault ≡ program.NoMemory
 OpensBook remaining (Some name) before result = LoadsFile remaining result
+
+-- what `view` did. No book was opened, or a file was not read whole (`IsReadOrNoMemory` has the
+-- faults), and the output was not used. Or a book was opened, without the name of a trace in this
+-- state; this many files were opened, and their whole texts were viewed as scripts over this book,
+-- with these extras
+abbrev pub ViewsFiles : {F : Type 0} → (F → Option (List ℕ)) → Option (Bor Text) → ℕ → BookState → ViewExtras → Stream → Result Left ProgramFault → Type 0
+ViewsFiles {F} remaining start count before extras output result =
+    ((fault : ProgramFault) × (result ≡ Err fault) × (OpensBook remaining start before (Err fault) ⊎ IsReadOrNoMemory fault) × IsUnused output)
+    ⊎ ((book : AnyBook) × OpensBook remaining start before (Ok book)
+    × ((files : List F) × (scripts : List (Vec ℕ Global)) × (length files ≡ count)
+    × AreWholeTexts remaining files scripts × ViewsOver (any_state book) scripts extras output result))
 
 -- a source over an opened file, and a sink over one, of which nothing was used yet
 abbrev pub OpensFiles : {F : Type 0} → (F → Option (List ℕ)) → (F → Option (List ℕ)) → ReadSource F → WriteSink F → Type 0
@@ -101,48 +111,45 @@ OpensFiles {F} remaining contents reader writer =
 -- the output was not used. Or a book was opened, without the name of a trace in this state; then
 -- viewers were there at once over it, one for each name: it read one file, and its replies went to
 -- another one
-abbrev pub ViewsFilesLive : {F : Type 0} → (F → Option (List ℕ)) → (F → Option (List ℕ)) → Option (Bor Text) → List Text → BookState → ViewExtras → Stream → Result (Vec ViewerEnd Global) ProgramFault → Type 0
+abbrev pub ViewsFilesLive : {F : Type 0} → (F → Option (List ℕ)) → (F → Option (List ℕ)) → Option (Bor Text) → List Text → BookState → ViewExtras → Stream → Result (Vec ViewerEnd Global × Left) ProgramFault → Type 0
 ViewsFilesLive remaining contents start names before extras output result =
     ((fault : ProgramFault) × (result ≡ Err fault) × (OpensBook remaining start before (Err fault) ⊎ (fault ≡ program.NoMemory)) × IsUnused output)
     ⊎ ((book : AnyBook) × OpensBook remaining start before (Ok book)
     × ViewsLive (λ name. OpensFiles remaining contents) (reader_source remaining) (writer_sink contents) (any_state book) names extras output result)
 
--- what `run` did for a file's name over a book in this state. For the name `-` it played the script
--- on the input; for any other name it played the script in a file, if that could be opened, and did
--- not use the input
-abbrev pub PlaysFileOrInput : {F : Type 0} → (F → Option (List ℕ)) → Text → BookState → Bool → Devices → Result ℕ ProgramFault → Type 0
-PlaysFileOrInput remaining name before traced d result =
-    ((name ≡ codes "-") × PlaysScript before traced d result)
-    ⊎ ((name ≢ codes "-") × IsUnused d.input × PlaysFile remaining before traced d.output result)
-
--- what was done, from a number of lines or calls
+-- what was done, from a number of lines
 abbrev pub counted : Result ℕ ProgramFault → Result Done ProgramFault
-counted (Ok count) = Ok (Counted count)
+counted (Ok lines) = Ok (Counted lines)
 counted (Err fault) = Err fault
 
--- what was done, from how viewers ended that were there at once
-abbrev pub lived : Result (Vec ViewerEnd Global) ProgramFault → Result Done ProgramFault
-lived (Ok ends) = Ok (Lived ends)
+-- what was done, from what viewers left: the number of their calls
+abbrev pub recorded : Result Left ProgramFault → Result Done ProgramFault
+recorded (Ok left) = Ok (Counted (length (entries left.history)))
+recorded (Err fault) = Err fault
+
+-- what was done, from how viewers ended that were there at once, and what they left
+abbrev pub lived : Result (Vec ViewerEnd Global × Left) ProgramFault → Result Done ProgramFault
+lived (Ok done) = Ok (Lived done.0)
 lived (Err fault) = Err fault
 
 -- what `view` did for files of these names, over a book in this state without the name of a trace to
 -- start with, by whether its viewers were there at once
 abbrev pub Views : {F : Type 0} → (F → Option (List ℕ)) → (F → Option (List ℕ)) → Bool → Option (Bor Text) → List Text → BookState → ViewExtras → Stream → Result Done ProgramFault → Type 0
 Views remaining contents true start names before extras output result =
-    (ends : Result (Vec ViewerEnd Global) ProgramFault) × (result ≡ lived ends) × ViewsFilesLive remaining contents start names before extras output ends
+    (done : Result (Vec ViewerEnd Global × Left) ProgramFault) × (result ≡ lived done) × ViewsFilesLive remaining contents start names before extras output done
 Views remaining contents false start names before extras output result =
-    (count : Result ℕ ProgramFault) × (result ≡ counted count) × ViewsFilesAfter remaining start (length names) before extras output count
+    (left : Result Left ProgramFault) × (result ≡ recorded left) × ViewsFiles remaining start (length names) before extras output left
 
 -- what the program did for these options, with this result: `run` and `view` over the options'
 -- fresh world, `load` and `view --start` over the book of a trace. `view` does not use the input
 abbrev pub FollowsOptions : {F : Type 0} → (F → Option (List ℕ)) → (F → Option (List ℕ)) → Options → Devices → Result Done ProgramFault → Type 0
 FollowsOptions remaining contents (Run file actors ring trace) d result =
-    (count : Result ℕ ProgramFault) × (result ≡ counted count) × PlaysFileOrInput remaining file.now (fresh_state (ring_length ring) actors) trace d count
+    (lines : Result ℕ ProgramFault) × (result ≡ counted lines) × RunsFile remaining file.now (fresh_state (ring_length ring) actors) trace d lines
 FollowsOptions remaining contents (View files actors ring start live history trace) d result =
     IsUnused d.input
     × Views remaining contents live start (map (λ file. file.now) files.items) (fresh_state (ring_length ring) actors) (record { history = history; trace = trace }) d.output result
 FollowsOptions remaining contents (Load file trace) d result =
-    (count : Result ℕ ProgramFault) × (result ≡ counted count) × ResumesFile remaining trace d count
+    (lines : Result ℕ ProgramFault) × (result ≡ counted lines) × ResumesFile remaining trace d lines
 
 -- the outcome of these words: they give options, and the outcome is the result of doing what these
 -- ask for; or the outcome is a fault with which the words end, and neither stream was used

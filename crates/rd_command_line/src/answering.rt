@@ -6,18 +6,17 @@ ghost use Rattle.std.specs.Process.{exit_status};
 ghost use Rattle.rd_desk.specs.declared.desks.TheConstants.{MOST_VIEWERS};
 ghost use Rattle.rd_script.specs.Streams.{devices, sink_stream};
 ghost use Rattle.rd_script.specs.Ring.{ring_length};
-ghost use Rattle.rd_script.specs.AnyBook.{any_state, fresh_state};
-ghost use Rattle.rd_program.specs.declared.faults.ProgramFault.TheVariants.{Read};
+ghost use Rattle.rd_script.specs.AnyBook.{any_journal, any_state, fresh_state};
 ghost use Rattle.rd_program.specs.Program.{IsReadOrNoMemory};
 ghost use Rattle.rd_options.specs.Options.{AreInRange};
 ghost use Rattle.rd_command_line.specs.Outcomes.{is_shown};
-ghost use Rattle.rd_command_line.specs.Answering.{AreWholeTexts, FollowsWords, FollowsOptions, FollowsWordsOrFault, LoadsFile, OpensBook, ResumesFile, RunsCommandLine, PlaysFile, PlaysFileOrInput, ViewsFiles, ViewsFilesAfter, ViewsFilesFrom, ViewsFilesLive, counted, lived};
+ghost use Rattle.rd_command_line.specs.Answering.{AreWholeTexts, FollowsWords, FollowsOptions, FollowsWordsOrFault, LoadsFile, OpensBook, OpensScript, ResumesFile, RunsCommandLine, RunsFile, PlaysFileOrInput, ViewsFiles, ViewsFilesLive, counted, lived, recorded};
 
 use super::outcomes::{Outcome, show_outcome};
 use super::terminals::file_terminals;
 use rd_options::{Options, OptionsFault, options};
 use rd_program::{
-    Done, ProgramFault, Setup, ViewExtras, load_book, play, read_whole_text, resume, view,
+    Done, Left, ProgramFault, Setup, ViewExtras, fresh_book, load_book, play, read_whole_text,
     view_book, view_live,
 };
 use rd_script::{AnyBook, ReadSource, Sink, Source};
@@ -25,6 +24,7 @@ use rd_view::ViewerEnd;
 use std::alloc::Global;
 use std::convert::AsStr;
 use std::fs::{self, Files};
+use std::io::Read;
 use std::process::ExitCode;
 use std::sync::Wait;
 use std::thread::Threads;
@@ -109,9 +109,9 @@ where
 }
 
 /// Does what the options ask for. Returns the number of the script's lines, for `view` the number
-/// of recorded calls, or for `view --live` how each viewer ended. Fails as `play_file_or_input`,
-/// `view_files_after`, `view_files_live` or `resume_file` does. There must be 1 to 16 actors and,
-/// for `view`, 1 to 64 files. Neither stream may have failed before.
+/// of recorded calls, or for `view --live` how each viewer ended. Fails as `run_file`, `view_files`,
+/// `view_files_live` or `resume_file` does. There must be 1 to 16 actors and, for `view`, 1 to 64
+/// files. Neither stream may have failed before.
 fn follow_options<R: Files + Threads + Wait + Sync, I: Source, O: Sink>(
     rt: &R,
     alloc: Global,
@@ -136,7 +136,7 @@ where
             trace,
         } => {
             let setup = Setup { actors, ring };
-            counted(play_file_or_input(rt, alloc, file, input, output, setup, trace))
+            counted(run_file(rt, alloc, file, input, output, setup, trace))
         }
         Options::View {
             files,
@@ -153,7 +153,7 @@ where
             if live {
                 lived(view_files_live(rt, alloc, start, names, output, setup, extras))
             } else {
-                counted(view_files_after(rt, alloc, start, names, output, setup, extras))
+                recorded(view_files(rt, alloc, start, names, output, setup, extras))
             }
         }
         Options::Load { file, trace } => {
@@ -162,25 +162,35 @@ where
     }
 }
 
-/// Returns what was done, from a number of lines or calls.
-fn counted(count: Result<u64, ProgramFault>) -> Result<Done, ProgramFault>
-    ensures { result ≡ counted count }
+/// Returns what was done, from a number of lines.
+fn counted(lines: Result<u64, ProgramFault>) -> Result<Done, ProgramFault>
+    ensures { result ≡ counted lines }
 {
-    Ok(Done::Counted(count?))
+    Ok(Done::Counted(lines?))
 }
 
-/// Returns what was done, from how viewers ended that were there at once.
-fn lived(ends: Result<Vec<ViewerEnd>, ProgramFault>) -> Result<Done, ProgramFault>
-    ensures { result ≡ lived ends }
+/// Returns what was done, from what viewers left.
+fn recorded(left: Result<Left, ProgramFault>) -> Result<Done, ProgramFault>
+    ensures { result ≡ recorded left }
 {
-    Ok(Done::Lived(ends?))
+    let left = left?;
+    Ok(Done::Counted(left.history.len()))
 }
 
-/// Runs the script on the input if the name is `-`, else the script in the file of this name,
-/// without using the input. Writes its report to the output and, if `trace` is set, the session's
-/// trace after it, and returns the number of its lines. Fails as `play` does, and with `Read` if
-/// the file can't be opened; neither stream is then used. Neither may have failed before.
-fn play_file_or_input<R: Files, I: Source, O: Sink>(
+/// Returns what was done, from how viewers ended that were there at once, and what they left.
+fn lived(done: Result<(Vec<ViewerEnd>, Left), ProgramFault>) -> Result<Done, ProgramFault>
+    ensures { result ≡ lived done }
+{
+    let (ends, _) = done?;
+    Ok(Done::Lived(ends))
+}
+
+/// Runs the script of this name over the fresh world of this setup: the one on the input if the
+/// name is `-`, else the one in the file of this name, without using the input. Writes its report
+/// to the output and, if `trace` is set, the session's trace after it, and returns the number of
+/// its lines. Fails with `Read` if the file can't be opened, with `NoMemory` if memory for the world
+/// is refused, and neither stream is then used; or as `play` does. Neither may have failed before.
+fn run_file<R: Files, I: Source, O: Sink>(
     rt: &R,
     alloc: Global,
     name: &str,
@@ -191,41 +201,77 @@ fn play_file_or_input<R: Files, I: Source, O: Sink>(
 ) -> Result<u64, ProgramFault>
     requires input_works { I.has_failed input.old ≡ false }
     requires output_works { O.has_failed output.old ≡ false }
-    ensures { PlaysFileOrInput R.File.remaining name.now
+    ensures { RunsFile R.File.remaining name.now
         (fresh_state (ring_length setup.ring) setup.actors) trace
         (devices I.Source O.Sink input.old input.new output.old output.new) result }
 {
+    let file = open_script(rt, name)?;
+    let mut book = fresh_book(alloc, setup)?;
+    play_file_or_input(alloc, file, input, output, &mut book, trace)
+}
+
+/// Opens the script of this name: no file if the name is `-`, which stands for the input. Fails
+/// with `Read` if the file can't be opened.
+fn open_script<R: Files>(rt: &R, name: &str) -> Result<Option<R::File>, ProgramFault>
+    ensures { OpensScript name.now result }
+{
     match name {
-        "-" => play(alloc, input, output, setup, trace),
-        _ => play_file(rt, alloc, name, output, setup, trace),
+        "-" => Ok(None),
+        _ => Ok(Some(open_file(rt, name)?)),
     }
 }
 
-/// Runs the script in the file of this name. Writes its report to the output and, if `trace` is
-/// set, the session's trace after it, and returns the number of its lines. Fails as `play` does,
-/// and with `Read` if the file can't be opened; the output is then not used. The output must not
-/// have failed before.
-fn play_file<R: Files, O: Sink>(
+/// Runs over a book the script in this file, without using the input, or the one on the input if
+/// there is no file. Writes to the output and returns what `play` does, with the same faults.
+/// Neither stream may have failed before.
+fn play_file_or_input<F: Read + Drop, I: Source, O: Sink>(
+    alloc: Global,
+    file: Option<F>,
+    input: &mut I,
+    output: &mut O,
+    book: &mut AnyBook,
+    trace: bool,
+) -> Result<u64, ProgramFault>
+    requires input_works { I.has_failed input.old ≡ false }
+    requires output_works { O.has_failed output.old ≡ false }
+    ensures { PlaysFileOrInput F.remaining file (any_state book.old) (any_state book.new)
+        (any_journal book.new) trace
+        (devices I.Source O.Sink input.old input.new output.old output.new) result }
+{
+    match file {
+        None => play(alloc, input, output, book, trace),
+        Some(file) => play(alloc, &mut ReadSource::new(file), output, book, trace),
+    }
+}
+
+/// Loads the trace in the file of this name, and runs the script on the input over its book. Writes
+/// the script's report to the output and, if `trace` is set, the session's trace after it, and
+/// returns the number of the script's lines. Fails as `load_file` does, and neither stream is then
+/// used; or as `play` does. Neither may have failed before.
+fn resume_file<R: Files, I: Source, O: Sink>(
     rt: &R,
     alloc: Global,
     name: &str,
+    input: &mut I,
     output: &mut O,
-    setup: Setup,
     trace: bool,
 ) -> Result<u64, ProgramFault>
+    requires input_works { I.has_failed input.old ≡ false }
     requires output_works { O.has_failed output.old ≡ false }
-    ensures { PlaysFile R.File.remaining (fresh_state (ring_length setup.ring) setup.actors) trace
-        (sink_stream O.Sink output.old output.new) result }
+    ensures { ResumesFile R.File.remaining trace
+        (devices I.Source O.Sink input.old input.new output.old output.new) result }
 {
-    let file = open_file(rt, name)?;
-    play(alloc, &mut ReadSource::new(file), output, setup, trace)
+    let mut book = load_file(rt, alloc, name)?;
+    play(alloc, input, output, &mut book, trace)
 }
 
-/// Runs the scripts in the files of these names, each by its own viewer: over the book of the trace
-/// in the file `start` if there is one, as `view_files_from` does, else over a fresh world, as
-/// `view_files` does, with the same faults. There must be 1 to 64 names, and the output must not
-/// have failed before.
-fn view_files_after<R: Files + Threads + Wait + Sync, O: Sink>(
+/// Runs the scripts in the files of these names over one book, each by its own viewer: the book of
+/// the trace in the file `start` if there is one, which is loaded before any other file is opened,
+/// else a fresh world's, which is made when all files are read. Writes to the output and returns
+/// what `view_book` does. Fails as `load_file`, `fresh_book` or `read_files` does, and the output is
+/// then not used; or as `view_book` does. There must be 1 to 64 names, and the output must not have
+/// failed before.
+fn view_files<R: Files + Threads + Wait + Sync, O: Sink>(
     rt: &R,
     alloc: Global,
     start: Option<&str>,
@@ -233,95 +279,35 @@ fn view_files_after<R: Files + Threads + Wait + Sync, O: Sink>(
     output: &mut O,
     setup: Setup,
     extras: ViewExtras,
-) -> Result<u64, ProgramFault>
+) -> Result<Left, ProgramFault>
     requires output_works { O.has_failed output.old ≡ false }
     requires some_files { 1 ≤ length names.now }
     requires few_files { length names.now ≤ MOST_VIEWERS }
-    ensures { ViewsFilesAfter R.File.remaining start.entry (length names.now)
+    ensures { ViewsFiles R.File.remaining start.entry (length names.now)
         (fresh_state (ring_length setup.ring) setup.actors) extras
         (sink_stream O.Sink output.old output.new) result }
 {
     match start {
-        None => view_files(rt, alloc, names, output, setup, extras),
-        Some(name) => view_files_from(rt, alloc, name, names, output, extras),
+        None => {
+            let scripts = read_files(rt, alloc, names)?;
+            let book = fresh_book(alloc, setup)?;
+            view_book(rt, alloc, scripts.as_slice(), output, book, extras)
+        }
+        Some(name) => {
+            let loaded = load_file(rt, alloc, name)?;
+            let texts = read_files(rt, alloc, names)?;
+            view_book(rt, alloc, texts.as_slice(), output, loaded, extras)
+        }
     }
-}
-
-/// Runs the scripts in the files of these names over one fresh world, each by its own viewer.
-/// Writes to the output what `view` writes with these extras, and returns the number of recorded
-/// calls. All files are read before the first command is asked. Fails as `read_files` does, and the
-/// output is then not used, or as `view` does. There must be 1 to 64 names, and the output must not
-/// have failed before.
-fn view_files<R: Files + Threads + Wait + Sync, O: Sink>(
-    rt: &R,
-    alloc: Global,
-    names: &[&str],
-    output: &mut O,
-    setup: Setup,
-    extras: ViewExtras,
-) -> Result<u64, ProgramFault>
-    requires output_works { O.has_failed output.old ≡ false }
-    requires some_files { 1 ≤ length names.now }
-    requires few_files { length names.now ≤ MOST_VIEWERS }
-    ensures { ViewsFiles R.File.remaining (length names.now)
-        (fresh_state (ring_length setup.ring) setup.actors) extras
-        (sink_stream O.Sink output.old output.new) result }
-{
-    let scripts = read_files(rt, alloc, names)?;
-    view(rt, alloc, scripts.as_slice(), output, setup, extras)
-}
-
-/// Loads the trace in the file `start`, and runs the scripts in the files of these names over its
-/// book, each by its own viewer. Writes and returns what `view_files` does. The trace is loaded
-/// before any file of a viewer is opened. Fails as `load_file` or `read_files` does, and the output
-/// is then not used, or as `view_book` does. There must be 1 to 64 names, and the output must not
-/// have failed before.
-fn view_files_from<R: Files + Threads + Wait + Sync, O: Sink>(
-    rt: &R,
-    alloc: Global,
-    start: &str,
-    names: &[&str],
-    output: &mut O,
-    extras: ViewExtras,
-) -> Result<u64, ProgramFault>
-    requires output_works { O.has_failed output.old ≡ false }
-    requires some_files { 1 ≤ length names.now }
-    requires few_files { length names.now ≤ MOST_VIEWERS }
-    ensures { ViewsFilesFrom R.File.remaining (length names.now) extras
-        (sink_stream O.Sink output.old output.new) result }
-{
-    let book = load_file(rt, alloc, start)?;
-    view_files_over(rt, alloc, names, output, book, extras)
-}
-
-/// Runs the scripts in the files of these names over a book, each by its own viewer. Writes and
-/// returns what `view_files` does. Fails as `read_files` does, and the output is then not used, or
-/// as `view_book` does. There must be 1 to 64 names, and the output must not have failed before.
-fn view_files_over<R: Files + Threads + Wait + Sync, O: Sink>(
-    rt: &R,
-    alloc: Global,
-    names: &[&str],
-    output: &mut O,
-    book: AnyBook,
-    extras: ViewExtras,
-) -> Result<u64, ProgramFault>
-    requires output_works { O.has_failed output.old ≡ false }
-    requires some_files { 1 ≤ length names.now }
-    requires few_files { length names.now ≤ MOST_VIEWERS }
-    ensures { ViewsFiles R.File.remaining (length names.now) (any_state book) extras
-        (sink_stream O.Sink output.old output.new) result }
-{
-    let scripts = read_files(rt, alloc, names)?;
-    view_book(rt, alloc, scripts.as_slice(), output, book, extras)
 }
 
 /// Lets viewers work on one book at once, each reading one of these files as it comes, in a thread
 /// of its own, and appending its replies to the file of that name with `.replies` behind it. The
 /// book is that of the trace in the file `start` if there is one, which is loaded before any other
 /// file is opened, else a fresh world's. When all viewers have ended, writes to the output what
-/// `view_live` writes with these extras, and returns how each ended. Fails as `opened_book` does or
-/// with `NoMemory`, and the output is then not used; or as `view_live` does. There must be 1 to 64
-/// names, and the output must not have failed before.
+/// `view_live` writes with these extras, and returns how each ended and what they left. Fails as
+/// `opened_book` does or with `NoMemory`, and the output is then not used; or as `view_live` does.
+/// There must be 1 to 64 names, and the output must not have failed before.
 fn view_files_live<R: Files + Threads + Wait + Sync, O: Sink>(
     rt: &R,
     alloc: Global,
@@ -330,7 +316,7 @@ fn view_files_live<R: Files + Threads + Wait + Sync, O: Sink>(
     output: &mut O,
     setup: Setup,
     extras: ViewExtras,
-) -> Result<Vec<ViewerEnd>, ProgramFault>
+) -> Result<(Vec<ViewerEnd>, Left), ProgramFault>
 where
     R::File: Send,
     R::Dir: Send,
@@ -350,7 +336,7 @@ where
 }
 
 /// Returns the book of the trace in the file `start` if there is one, else one over a fresh world.
-/// Fails as `load_file` does, or with `NoMemory` if memory for the world is refused.
+/// Fails as `load_file` or `fresh_book` does.
 fn opened_book<R: Files>(
     rt: &R,
     alloc: Global,
@@ -362,10 +348,7 @@ fn opened_book<R: Files>(
 {
     match start {
         Some(name) => load_file(rt, alloc, name),
-        None => match AnyBook::fresh(alloc, setup.ring, setup.actors) {
-            Ok(book) => Ok(book),
-            Err(_) => Err(ProgramFault::NoMemory),
-        },
+        None => fresh_book(alloc, setup),
     }
 }
 
@@ -398,32 +381,9 @@ fn read_files<R: Files>(rt: &R, alloc: Global, names: &[&str]) -> Result<Vec<Vec
     Ok(texts)
 }
 
-/// Loads the trace in the file of this name, and runs the script on the input over its book. Writes
-/// the script's report to the output and, if `trace` is set, the session's trace after it, and
-/// returns the number of the script's lines. Fails with `Read` if the file can't be opened, or as
-/// `read_whole_text` does, and neither stream is then used; or as `resume` does. Neither may have
-/// failed before.
-fn resume_file<R: Files, I: Source, O: Sink>(
-    rt: &R,
-    alloc: Global,
-    name: &str,
-    input: &mut I,
-    output: &mut O,
-    trace: bool,
-) -> Result<u64, ProgramFault>
-    requires input_works { I.has_failed input.old ≡ false }
-    requires output_works { O.has_failed output.old ≡ false }
-    ensures { ResumesFile R.File.remaining trace
-        (devices I.Source O.Sink input.old input.new output.old output.new) result }
-{
-    let mut file = open_file(rt, name)?;
-    let text = read_whole_text(alloc, &mut file)?;
-    resume(alloc, text.as_slice(), input, output, trace)
-}
-
 /// Opens the file of this name for reading. Fails with `Read` if it can't be opened.
 fn open_file<R: Files>(rt: &R, name: &str) -> Result<R::File, ProgramFault>
-    ensures { IfErr result (λ fault. fault ≡ Read) }
+    ensures { IfErr result (λ fault. fault ≡ ProgramFault.Read) }
 {
     match fs::open(rt, name) {
         Ok(file) => Ok(file),

@@ -10,11 +10,5 @@ use Rattle.rd_program.specs.Program.{WritesTraceIfAsked, RanToTrace}
 -- a run that came to its end, and then its trace if it was asked for, are a `RanToTrace`
 pub ran_to_trace : (before after : BookState) (kept : Journal) (traced : Bool) (d : Devices) (reported : Option (List ℕ)) (failed : Bool) (n : ℕ) (written : Result (Unit {0}) TraceFault)
     → RanToEnd before after kept (record d { output = record d.output { after = reported; failed = failed } }) n
-    → WritesTraceIfAsked traced after (record d.output { before = reported }) written → RanToTrace before traced d n written
-ran_to_trace before after kept traced d reported failed n written ran trace = record {
-  after = after;
-  kept = kept;
-  reported = reported;
-  ran = rw ran.out_works at ran;
-  trace = trace;
-}
+    → WritesTraceIfAsked traced after (record d.output { before = reported }) written → RanToTrace before after kept traced d n written
+ran_to_trace before after kept traced d reported failed n written ran trace = record { reported = reported; ran = rw ran.out_works at ran; trace = trace }

@@ -8,7 +8,6 @@ use Rattle.rd_script.specs.Script.{RanToEnd, RunsScript}
 use Rattle.rd_trace.specs.declared.faults.TraceFault.{TraceFault}
 use Rattle.rd_script.specs.declared.any_book.AnyBook.{AnyBook}
 use Rattle.rd_trace.specs.Writing.{WritesTrace}
-use Rattle.rd_script.specs.AnyBook.{any_state}
 use Rattle.rd_trace.specs.Loading.{LoadsTrace}
 use Rattle.rd_program.specs.declared.faults.ProgramFault.{ProgramFault}
 use Rattle.rd_program.specs.declared.faults.ProgramFault.TheVariants.{NoMemory, Read, Script, Trace}
@@ -28,42 +27,30 @@ abbrev pub WritesTraceIfAsked : Bool → BookState → Stream → Result (Unit {
 WritesTraceIfAsked true b output result = WritesTrace b output result
 WritesTraceIfAsked false b output result = (result ≡ Ok tt) × GetsNothing false output
 
--- a script of n lines ran to its end over a book in this state, and its report was written; then,
--- if the trace was asked for, writing it had the result `written`
-pub record RanToTrace (before : BookState) (traced : Bool) (d : Devices) (n : ℕ) (written : Result (Unit {0}) TraceFault) : Type 0 where
-  -- the state that the script left, and the journal that the book then keeps
-  pub after : BookState
-  pub kept : Journal
-  -- what the writer had taken when the report was whole
-  pub reported : Option (List ℕ)
-  -- the run as far as the report, at which neither device had failed
-  pub ran : RanToEnd before after kept (record d { output = record d.output { after = reported; failed = false } }) n
-  -- what the writer got after the report
-  pub trace : WritesTraceIfAsked traced after (record d.output { before = reported }) written
+module _ (before after : BookState) (kept : Journal) (traced : Bool) (d : Devices) where
+  -- a script of n lines ran to its end, and led a book from `before` to `after`, which keeps the
+  -- journal `kept`. Its report was written; then, if the trace was asked for, writing it had the
+  -- result `written`
+  pub record RanToTrace (n : ℕ) (written : Result (Unit {0}) TraceFault) : Type 0 where
+    -- what the writer had taken when the report was whole
+    pub reported : Option (List ℕ)
+    -- the run as far as the report, at which neither device had failed
+    pub ran : RanToEnd before after kept (record d { output = record d.output { after = reported; failed = false } }) n
+    -- what the writer got after the report
+    pub trace : WritesTraceIfAsked traced after (record d.output { before = reported }) written
 
--- what `run` and `load` did over a book in this state, by the result. Either a script of n lines
--- ran to its end, and the trace was written whole if it was asked for; or the script's run stopped;
--- or it ran to its end, and the trace was not written whole. There is no other fault
-abbrev pub PlaysOver : BookState → Bool → Devices → Result ℕ ProgramFault → Type 0
-PlaysOver before traced d (Ok n) = RanToTrace before traced d n (Ok tt)
-PlaysOver before traced d (Err (Script fault)) = (after : BookState) × (kept : Journal) × RunsScript before after kept d (Err fault)
-PlaysOver before traced d (Err (Trace fault)) = (n : ℕ) × RanToTrace before traced d n (Err fault)
-PlaysOver before traced d (Err _) = ⊥
-
--- what `run` did over a book in this state: memory for the book was refused, and neither device was
--- used; or a script was run over it, as `PlaysOver` says
-abbrev pub PlaysScript : BookState → Bool → Devices → Result ℕ ProgramFault → Type 0
-PlaysScript before traced d result = ((result ≡ Err NoMemory) × AreUnused d) ⊎ PlaysOver before traced d result
+  -- what `run` and `load` did over a book, which went from `before` to `after` and keeps the journal
+  -- `kept`, by the result. Either a script of n lines ran to its end, and the trace was written
+  -- whole if it was asked for; or the script's run stopped; or it ran to its end, and the trace was
+  -- not written whole. There is no other fault
+  abbrev pub PlaysOver : Result ℕ ProgramFault → Type 0
+  PlaysOver (Ok n) = RanToTrace n (Ok tt)
+  PlaysOver (Err (Script fault)) = RunsScript before after kept d (Err fault)
+  PlaysOver (Err (Trace fault)) = (n : ℕ) × RanToTrace n (Err fault)
+  PlaysOver (Err _) = ⊥
 
 -- the result of loading a text as a trace: its book, or `Trace` with the reason why there is none
 abbrev pub LoadsBook : List ℕ → Result AnyBook ProgramFault → Type 0
 LoadsBook text (Ok book) = LoadsTrace text (Ok book)
 LoadsBook text (Err (Trace fault)) = LoadsTrace text (Err fault)
 LoadsBook text (Err _) = ⊥
-
--- what `load` did with the text of a file: it was not loaded, and neither device was used; or it
--- was loaded as a book, and a script was run over this book
-abbrev pub ResumesTrace : List ℕ → Bool → Devices → Result ℕ ProgramFault → Type 0
-ResumesTrace text traced d result =
-    ((fault : TraceFault) × (result ≡ Err (Trace fault)) × AreUnused d × LoadsTrace text (Err fault))
-    ⊎ ((book : AnyBook) × LoadsTrace text (Ok book) × PlaysOver (any_state book) traced d result)

@@ -2,19 +2,20 @@
 //! shows.
 
 ghost use Rattle.std.specs.Prelude.{◌≡◌};
-ghost use Rattle.rd_program.specs.declared.faults.ProgramFault.TheVariants.{Script, Trace, View};
+ghost use Rattle.rd_program.specs.declared.faults.ProgramFault.TheVariants.{NoMemory, Script, Trace, View};
 ghost use Rattle.rd_program.specs.Endings.{refusal_of, trace_refusal, view_refusal};
 
 use rd_cell::Refusal;
 use rd_script::{AnyRefusal, ScriptFault};
 use rd_trace::TraceFault;
 use rd_view::ViewFault;
+use std::alloc::AllocError;
 use thiserror::Error;
 
 /// Why the program ends without having done all that it was asked.
 #[derive(Clone, Copy, Debug, Error)]
 pub enum ProgramFault {
-    /// Memory for the world of `play`, a text or the command line was refused.
+    /// Memory for a fresh world, a text or the command line was refused.
     #[error("memory was refused")]
     NoMemory,
     /// A file can't be opened or read.
@@ -72,6 +73,15 @@ fn view_refusal(fault: ViewFault) -> AnyRefusal
             next: words.next,
             served: words.served,
         },
+    }
+}
+
+impl From<AllocError> for ProgramFault {
+    ghost from_gives = { λ error fault. fault ≡ NoMemory };
+
+    /// Returns `NoMemory`, the fault for refused memory.
+    fn from(_: AllocError) -> ProgramFault {
+        ProgramFault::NoMemory
     }
 }
 

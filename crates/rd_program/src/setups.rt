@@ -1,9 +1,11 @@
-//! What a run begins in, what a view writes behind its report, and what was done at the end.
+//! What a run begins in, what a view writes behind its report and leaves, and what was done at the
+//! end.
 
 ghost use Rattle.std.specs.Prelude.{◌≤◌};
 ghost use Rattle.rd_cell.specs.declared.limits.TheConstants.{MOST_ACTORS};
 
-use rd_script::Ring;
+use rd_desk::History;
+use rd_script::{AnyBook, Ring};
 use rd_view::ViewerEnd;
 
 /// The fresh world that a run begins in, by its size.
@@ -24,6 +26,15 @@ pub struct ViewExtras {
     pub history: bool,
     /// The trace of the session, as the last line.
     pub trace: bool,
+}
+
+/// What the viewers of one book left.
+#[derive(Drop)]
+pub struct Left {
+    /// The calls of all viewers.
+    pub history: History,
+    /// The book that these calls left.
+    pub book: AnyBook,
 }
 
 /// What was done, where nothing stopped the program.

@@ -8,7 +8,7 @@ use super::trials::{Trial, look, on_trial};
 use rd_cell::Refusal;
 use rd_desk::{Answer, Desk, DeskPass, DeskRefusal, History};
 use rd_marks::{Book, Command};
-use rd_script::command_in;
+use rd_script::parse_command;
 use std::alloc::Global;
 use std::process::Abort;
 use std::sync::Wait;
@@ -68,7 +68,7 @@ fn asks_all<R: Wait>(rt: &R, desk: &Desk<2>, pass: &mut DeskPass<2>) -> bool
     ensures own { IsViewerOf desk.now pass.new }
 {
     for line in LINES.lines() {
-        let Ok(command) = command_in(line.as_bytes()) else {
+        let Ok(command) = parse_command(line.as_bytes()) else {
             return false;
         };
         if !asks(rt, desk, pass, &command) {
@@ -96,7 +96,7 @@ fn has_calls_in_order(history: &History, book: &mut Book<2>) -> bool {
         let (Some((_, call)), Some(line)) = (history.call(number), next) else {
             return false;
         };
-        if command_in(line.as_bytes()) != Ok(call.command) {
+        if parse_command(line.as_bytes()) != Ok(call.command) {
             return false;
         }
         if call.answer != Err(Refusal::NoMemory) {

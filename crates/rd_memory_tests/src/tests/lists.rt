@@ -3,7 +3,7 @@
 use super::trials::{Trial, on_trial};
 use rd_cell::Refusal;
 use rd_marks::{Book, Command, Reply};
-use rd_script::{LineFault, command_in, lines};
+use rd_script::{LineFault, lines, parse_command};
 use std::alloc::Global;
 use std::process::Abort;
 
@@ -76,7 +76,7 @@ const TEXT: &str = "enq 1 7\nhello\ngo 1\nmark A\nsame a b\nlen";
 fn are_said(said: &[Result<Command, LineFault>]) -> bool {
     let mut number = 0;
     for line in TEXT.lines() {
-        if said.get(number) != Some(&command_in(line.as_bytes())) {
+        if said.get(number) != Some(&parse_command(line.as_bytes())) {
             return false;
         }
         number += 1;

@@ -2,7 +2,7 @@
 
 use super::trials::{has_text, on_trial};
 use rd_marks::Book;
-use rd_program::{ProgramFault, resume};
+use rd_program::{ProgramFault, load_book, play};
 use rd_script::{ReadSource, WriteSink};
 use rd_trace::{AnyBook, TraceFault, load_trace, write_trace};
 use std::alloc::Global;
@@ -135,13 +135,18 @@ fn a_trace_whose_loading_was_refused_memory_is_loaded_whole_the_next_time(rt: Ho
     are_loaded(&rt, rt.alloc(), ROWS, &mut page);
 }
 
+/// Loads a trace, and writes the trace of its session.
+fn saved_again(alloc: Global, trace: &[u8], page: &mut Vec<u8>) -> Result<u64, ProgramFault> {
+    let mut book = load_book(alloc, trace)?;
+    let script = &mut ReadSource::new(b"".as_slice());
+    play(alloc, script, &mut WriteSink::new(page), &mut book, true)
+}
+
 /// Whether the session that a trace is loaded as is written as that trace. If not, memory was
 /// refused, and nothing was written.
 fn comes_back(rt: &impl Abort, alloc: Global, trace: &[u8], page: &mut Vec<u8>) -> bool {
     page.clear();
-    let script = &mut ReadSource::new(b"".as_slice());
-    let sink = &mut WriteSink::new(&mut *page);
-    match resume(alloc, trace, script, sink, true) {
+    match saved_again(alloc, trace, page) {
         Err(ProgramFault::Trace(fault)) => is_whole(rt, Err(fault), page, trace),
         saved => {
             assert!(rt; matches!(saved, Ok(0)));

@@ -71,7 +71,8 @@ fn lives<R: Abort + Threads + Wait + Sync>(rt: &R, alloc: Global, live: &Live) {
     assert!(rt; 1 <= terminals.len() && terminals.len() <= 64);
     let mut written = Vec::new(alloc);
     let sink = &mut WriteSink::new(&mut written);
-    let Ok(ends) = view_live(rt, alloc, terminals, sink, fresh(rt, alloc), live.extras) else {
+    let book = fresh(rt, alloc);
+    let Ok((ends, _)) = view_live(rt, alloc, terminals, sink, book, live.extras) else {
         panic!(rt; "nothing was left");
     };
     assert_eq!(rt; ends.as_slice(), live.ends);

@@ -1,8 +1,10 @@
 //! Traces that the program loads, each with a script over it and what is written, the trace of the
 //! session too where it is asked for; or with the fault that it comes to.
 
-use rd_program::{ProgramFault, read_whole_text, resume};
-use rd_script::{ReadSource, WriteSink};
+ghost use Rattle.std.specs.Prelude.{◌≡◌, false};
+
+use rd_program::{ProgramFault, load_book, play, read_whole_text};
+use rd_script::{ReadSource, Sink, WriteSink};
 use rd_trace::TraceFault;
 use std::alloc::Global;
 use std::io;
@@ -14,7 +16,20 @@ const BEGUN: &str =
     "{\"actors\":4,\"events\":[[\"enq\",1,7],[\"go\",1]],\"ring\":4,\"version\":1}\n";
 
 /// Loads the trace and runs the script over it, with the trace of the session after it if `traced`.
-/// Compares what is written, and how it ended, with these.
+fn resumed<K: Sink + Drop>(
+    alloc: Global,
+    load: (&str, &str, bool),
+    mut sink: K,
+) -> Result<u64, ProgramFault>
+    requires { K.has_failed sink ≡ false }
+{
+    let (trace, script, traced) = load;
+    let mut book = load_book(alloc, trace.as_bytes())?;
+    let source = &mut ReadSource::new(script.as_bytes());
+    play(alloc, source, &mut sink, &mut book, traced)
+}
+
+/// Compares what is written over a trace, and how it ended, with these.
 fn comes_to(
     rt: &impl Abort,
     alloc: Global,
@@ -23,13 +38,8 @@ fn comes_to(
     ended: &str,
 ) {
     let mut written = Vec::new(alloc);
-    let lines = resume(
-        alloc,
-        trace.as_bytes(),
-        &mut ReadSource::new(script.as_bytes()),
-        &mut WriteSink::new(&mut written),
-        traced,
-    );
+    let sink = WriteSink::new(&mut written);
+    let lines = resumed(alloc, (trace, script, traced), sink);
     let shown = format!(in alloc; "{lines:?}").expect(rt, "out of memory");
     let said = written.as_slice() == wanted.as_bytes();
     assert!(rt; said && shown.as_str() == ended, "trace {trace}: {shown}");
@@ -101,13 +111,8 @@ fn is_cut_after_report(rt: &impl Abort, alloc: Global, row: &Saving) {
         most: 1,
         end: End::Fails,
     };
-    let lines = resume(
-        alloc,
-        row.trace.as_bytes(),
-        &mut ReadSource::new(row.script.as_bytes()),
-        &mut WriteSink::new(LimitedWriter::with_limit(&mut written, limit)),
-        true,
-    );
+    let sink = WriteSink::new(LimitedWriter::with_limit(&mut written, limit));
+    let lines = resumed(alloc, (row.trace, row.script, true), sink);
     let failed = matches!(lines, Err(ProgramFault::Trace(TraceFault::Write)));
     let begun = written.starts_with(row.report.as_bytes());
     assert!(rt; failed && begun && written.ends_with(b"{\"e"));

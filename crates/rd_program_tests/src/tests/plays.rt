@@ -1,6 +1,6 @@
 //! Scripts as the program runs them: over the fresh world of the options' actors and ring.
 
-use rd_program::{Setup, play};
+use rd_program::{Setup, fresh_book, play};
 use rd_script::{ReadSource, Ring, WriteSink};
 use std::alloc::Global;
 use std::process::Abort;
@@ -83,12 +83,13 @@ const PLAYS: &[Play] = &[
 fn report_is(rt: &impl Abort, alloc: Global, shown: &Play) {
     let (actors, ring, script) = (shown.actors, shown.ring, shown.script);
     assert!(rt; 1 <= actors && actors <= 16);
+    let mut book = fresh_book(alloc, Setup { actors, ring }).expect(rt, "out of memory");
     let mut written = Vec::new(alloc);
     let lines = play(
         alloc,
         &mut ReadSource::new(script.as_bytes()),
         &mut WriteSink::new(&mut written),
-        Setup { actors, ring },
+        &mut book,
         shown.trace,
     );
     let counted = matches!(lines, Ok(n) if n == script.lines().count() as u64);

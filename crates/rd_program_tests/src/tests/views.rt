@@ -1,7 +1,10 @@
 //! Views: several scripts over one fresh world, of the options' actors and ring.
 
-use rd_program::{ProgramFault, Setup, ViewExtras, view};
-use rd_script::{Ring, WriteSink};
+ghost use Rattle.std.specs.Prelude.{◌≡◌, ◌≤◌, false, length};
+ghost use Rattle.rd_desk.specs.declared.desks.TheConstants.{MOST_VIEWERS};
+
+use rd_program::{ProgramFault, Setup, ViewExtras, fresh_book, view_book};
+use rd_script::{Ring, Sink, WriteSink};
 use rd_view::ViewFault;
 use std::alloc::Global;
 use std::process::Abort;
@@ -99,6 +102,24 @@ const VIEWS: &[View] = &[
     },
 ];
 
+/// Views the scripts over a fresh world. Returns the number of recorded calls.
+fn viewed<R: Threads + Wait + Sync, K: Sink>(
+    rt: &R,
+    alloc: Global,
+    scripts: &[Vec<u8>],
+    sink: &mut K,
+    setup: Setup,
+    extras: ViewExtras,
+) -> Result<u64, ProgramFault>
+    requires some { 1 ≤ length scripts.now }
+    requires few { length scripts.now ≤ MOST_VIEWERS }
+    requires works { K.has_failed sink.old ≡ false }
+{
+    let book = fresh_book(alloc, setup)?;
+    let left = view_book(rt, alloc, scripts, sink, book, extras)?;
+    Ok(left.history.len())
+}
+
 /// Views the scripts and compares what is written, and the number of recorded calls.
 fn view_is<R: Threads + Wait + Abort + Sync>(rt: &R, alloc: Global, shown: &View) {
     let (actors, ring, text) = (shown.actors, shown.ring, shown.text);
@@ -107,15 +128,9 @@ fn view_is<R: Threads + Wait + Abort + Sync>(rt: &R, alloc: Global, shown: &View
     assert!(rt; 1 <= scripts.len() && scripts.len() <= 64);
     let mut written = Vec::new(alloc);
     let sink = &mut WriteSink::new(&mut written);
-    let viewed = view(
-        rt,
-        alloc,
-        scripts.as_slice(),
-        sink,
-        Setup { actors, ring },
-        shown.extras,
-    );
-    let counted = matches!(viewed, Ok(n) if n == shown.calls);
+    let setup = Setup { actors, ring };
+    let calls = viewed(rt, alloc, scripts.as_slice(), sink, setup, shown.extras);
+    let counted = matches!(calls, Ok(n) if n == shown.calls);
     assert!(rt;
         written.as_slice() == text.as_bytes() && counted,
         "text {text}"
@@ -139,12 +154,12 @@ fn there_may_be_64_viewers(rt: HostRuntime) {
         actors: 1,
         ring: Ring::Two,
     };
-    let viewed = view(&rt, rt.alloc(), scripts.as_slice(), sink, setup, PLAIN);
+    let calls = viewed(&rt, rt.alloc(), scripts.as_slice(), sink, setup, PLAIN);
     let begun = written.starts_with(b"viewer 1\nat 0 0\nviewer 2\n");
     let ended = written
         .as_slice()
         .ends_with(b"viewer 64\nat 0 0\nhistory 64\n");
-    assert!(&rt; matches!(viewed, Ok(64)) && begun && ended);
+    assert!(&rt; matches!(calls, Ok(64)) && begun && ended);
 }
 
 #[test]
@@ -156,6 +171,6 @@ fn a_view_that_cannot_be_written_is_a_failed_write(rt: HostRuntime) {
         actors: 4,
         ring: Ring::Four,
     };
-    let viewed = view(&rt, rt.alloc(), scripts.as_slice(), sink, setup, PLAIN);
-    assert!(&rt; matches!(viewed, Err(ProgramFault::View(ViewFault::Write))));
+    let calls = viewed(&rt, rt.alloc(), scripts.as_slice(), sink, setup, PLAIN);
+    assert!(&rt; matches!(calls, Err(ProgramFault::View(ViewFault::Write))));
 }

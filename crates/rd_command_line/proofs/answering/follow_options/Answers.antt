@@ -9,8 +9,8 @@ returns-then-live g c =
 
 pub returns-in-View : goal.returns-in-View
 returns-in-View g c =
-    let done = rw c.as_slice-names.ensures.value at c.view_files_after.ensures in
+    let done = rw c.as_slice-names.ensures.value at c.view_files.ensures in
     rw c.in-View.is (
       (Keeps-refl _, c.requires.input_works),
-      rw c.if-live.false (c.view_files_after.result, c.counted-else-live.ensures, rw (length-map c.in-View.files.items (λ file. file.now)) done),
+      rw c.if-live.false (c.view_files.result, c.recorded.ensures, rw (length-map c.in-View.files.items (λ file. file.now)) done),
     )
