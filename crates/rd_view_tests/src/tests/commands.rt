@@ -5,7 +5,7 @@ ghost use Rattle.rd_desk.specs.Desks.{IsViewerOf};
 use super::calls::{fresh, last_pass};
 use rd_desk::{Answer, Desk, DeskPass};
 use rd_marks::Command;
-use rd_script::{AnyRefusal, Text, command_in, set_answer, set_call};
+use rd_script::{AnyRefusal, Text, parse_command, set_answer, set_call};
 use std::process::Abort;
 use std::sync::Wait;
 use test_kit::ASKED;
@@ -65,7 +65,7 @@ fn each_kind_of_command_is_answered_as_the_manual_says(rt: HostRuntime) {
     };
     let mut trying = last_pass(&rt, &tried, &mut passes);
     for (line, reply) in ASKED {
-        let Ok(command) = command_in(line.as_bytes()) else {
+        let Ok(command) = parse_command(line.as_bytes()) else {
             panic!(&rt; "no command: {line}")
         };
         assert!(&rt; is_line(&command, *line), "wanted {line}");

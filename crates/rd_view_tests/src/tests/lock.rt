@@ -5,6 +5,7 @@ mod closing;
 mod draws;
 mod rows;
 mod threads;
+mod waiting;
 
 use rd_lock::Recorded;
 use std::alloc::Global;
