@@ -10,7 +10,8 @@ as a script; and the view's text is these answers, given to their viewers, with 
 trace of that run, byte for byte. A single viewer gets these answers without the calls too. Where
 the calls of several viewers are not written, the text has a reply to each line and no more.
 
-Each seed prints one line for each build of the program; the status is 1 if a view is another one.
+Each seed prints one line for each build of the program, and so does a view whose threads are all refused
+(`refused_threads.py`); the status is 1 if a view is another one.
 `--seed S --count 1` makes the scripts of seed S again; the viewers' calls may then have another order.
 """
 
@@ -21,7 +22,7 @@ from dataclasses import dataclass
 from pathlib import Path
 
 from lcrq_tools import history, program
-from lcrq_tools.checks import histories, replies
+from lcrq_tools.checks import histories, refused_threads, replies
 from lcrq_tools.checks.random_scripts import random_script, written_script
 from lcrq_tools.checks.replies import TRACE
 from lcrq_tools.checks.histories import ANY, HISTORY, calls_of, difference
@@ -109,5 +110,6 @@ def main() -> int:
     parser.add_argument("--count", type=int, default=COUNT, metavar="N", help=f"how many seeds ({COUNT})")
     given = parser.parse_args()
     seeds = range(given.seed, given.seed + given.count)
-    rows = [(f"seed {seed}", functools.partial(seed_fault, seed)) for seed in seeds]
+    views: program.Rows = [(f"seed {seed}", functools.partial(seed_fault, seed)) for seed in seeds]
+    rows = [*views, ("all threads refused", refused_threads.fault)]
     return program.print_checks(program.by_each_build(given.program, rows))
