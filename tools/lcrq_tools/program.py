@@ -378,12 +378,10 @@ def run_checks(about: str | None, checks: Checks) -> int:
 
 
 def by_each_build(built: str, rows: Rows) -> Iterator[tuple[str, str]]:
-    """Each row by each build of the program, with what is wrong, or nothing; and last how many rows and which builds
-    there are."""
-    builds = builds_of(built)
-    yield from ((f"{name}, by {build.name}", tried(check, str(build))) for build in builds for name, check in rows)
-    names = (str(build.relative_to(TOP) if build.is_relative_to(TOP) else build) for build in builds)
-    yield f"{len(rows)} rows, each by {' and '.join(names)}", ""
+    """Each row by each build of the program, with what is wrong, or nothing."""
+    for build in builds_of(built):
+        for name, check in rows:
+            yield f"{name}, by {build.name}", tried(check, str(build))
 
 
 def line_of(name: str, fault: str) -> str:
