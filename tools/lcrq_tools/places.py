@@ -28,7 +28,7 @@ CRATES, EXAMPLES = TOP / "crates", TOP / "examples"
 # Where the program is: where `rt run` and `rt ci` leave it, and in the archive that is handed out.
 BUILDS_TO = (CRATES / "lcrqdb" / "out" / "lcrqdb", TOP / "bin" / "lcrqdb")
 BUILT = next((path for path in BUILDS_TO if path.is_file()), BUILDS_TO[0])
-BUILDS = "(cd crates/lcrqdb && rt run -- run ../../examples/session.script), or unproved python3 tools/quick_build.py"
+BUILDS = "python3 tools/quick_build.py --proved, or without a proof python3 tools/quick_build.py"
 
 
 def found_program() -> str:

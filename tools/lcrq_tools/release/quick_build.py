@@ -1,13 +1,15 @@
 """Builds the program without any proof, in one to three minutes, and keeps it.
 
     python3 tools/quick_build.py [-o FILE]
+    python3 tools/quick_build.py --proved
 
 FILE is crates/lcrqdb/out/lcrqdb if left out, where the other scripts look for the program, and
 where `rt run` puts the proved one in its place. A program that is there and was not built so stays.
 
 `rt try` builds a program in a folder of its own, runs it and removes it. So it is given a named
 pipe as the script: the program waits there while its file is copied, and then gets an empty script.
-What is built is not proved. It has the checks of memory that `rt try` puts in (AddressSanitizer),
+With `--proved` all crates of the program are proved first, side by side where they can be (`proving.py`), and
+`rt run` puts the program in its place. Else what is built is not proved. It has the checks of memory that `rt try` puts in (AddressSanitizer),
 and so is larger and slower than the proved program. The status is 1, with the reason in one line,
 if nothing is built.
 """
@@ -20,8 +22,9 @@ import time
 from pathlib import Path
 
 from lcrq_tools.faults import Fault, Parser, say
-from lcrq_tools.places import BUILT, CRATES
+from lcrq_tools.places import BUILDS_TO, BUILT, CRATES, EXAMPLES
 from lcrq_tools.program import ELF, is_unproved
+from lcrq_tools.release import proving
 
 LOOK_EVERY = 0.2  # seconds between two looks at the pipe
 
@@ -72,12 +75,8 @@ def build_into(out: Path) -> None:
                 build.terminate()  # nothing, if it has ended
 
 
-def main() -> int:
+def build_unproved(out: Path) -> None:
     """Builds the program where that takes the place of no other one."""
-    parser = Parser(__doc__, "-o lcrqdb")
-    parser.add_argument("-o", dest="out", type=Path, default=BUILT, metavar="FILE", help=f"where it goes ({BUILT})")
-    out: Path = parser.parse_args().out
-    begin = time.monotonic()
     try:
         if out.exists() and not is_unproved(out.read_bytes()):
             raise NotBuilt("a file that was not built so is there; -o names another place")
@@ -85,5 +84,20 @@ def main() -> int:
         build_into(out)
     except (NotBuilt, KeyboardInterrupt) as fault:
         raise Fault(f"{out}: {str(fault) or 'stopped'}") from fault
-    print(f"{out}: not proved, built in {time.monotonic() - begin:.0f} s")
+
+
+def main() -> int:
+    """Builds the program as the command line asks for it; returns the exit status."""
+    parser = Parser(__doc__, "-o lcrqdb")
+    way = parser.add_mutually_exclusive_group()
+    way.add_argument("-o", dest="out", type=Path, default=BUILT, metavar="FILE", help=f"where it goes ({BUILT})")
+    way.add_argument("--proved", action="store_true", help="prove it first, and put it where `rt run` does")
+    given = parser.parse_args()
+    begin = time.monotonic()
+    if given.proved:
+        proving.build(EXAMPLES / "session.script")
+    else:
+        build_unproved(given.out)
+    out, how = (BUILDS_TO[0], "proved") if given.proved else (given.out, "not proved")
+    print(f"{out}: {how}, built in {time.monotonic() - begin:.0f} s")
     return 0
