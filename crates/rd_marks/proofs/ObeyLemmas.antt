@@ -67,16 +67,6 @@ obeyed_leaves b (command.DropMark name) a h = grind (arith, equal_leaves_start)
 obeyed_leaves b (command.GotoMark name) a h = made_leaves b _ (goto_mark b name) _ a (goto_start b name) h
 obeyed_leaves b _ a h = grind arith
 
--- a command that is an event may be answered as the event may
-pub event_obeyed : (b : BookState) (c : Command) (e : Event) (a : Answered) → as_event c ≡ Some e → IsEventAnswer b e a → IsObeyed b c a
-event_obeyed b (command.Enq actor value) e a is h = subst (λ (x : Event). IsEventAnswer b x a) (sym (same_Some _ e is)) h
-event_obeyed b (command.Deq actor) e a is h = subst (λ (x : Event). IsEventAnswer b x a) (sym (same_Some _ e is)) h
-event_obeyed b (command.ArrayEnq actor value) e a is h = subst (λ (x : Event). IsEventAnswer b x a) (sym (same_Some _ e is)) h
-event_obeyed b (command.ArrayDeq actor) e a is h = subst (λ (x : Event). IsEventAnswer b x a) (sym (same_Some _ e is)) h
-event_obeyed b (command.Go actor) e a is h = subst (λ (x : Event). IsEventAnswer b x a) (sym (same_Some _ e is)) h
-event_obeyed b (command.Starve actor choice) e a is h = subst (λ (x : Event). IsEventAnswer b x a) (sym (same_Some _ e is)) h
-event_obeyed b _ e a is h = cc
-
 -- One more command of a list is done
 
 pub one_more_obeyed : (b m t : BookState) (cs : List Command) (answers : List (Result Reply Refusal)) (c : Command) (answer : Result Reply Refusal)
