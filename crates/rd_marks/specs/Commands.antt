@@ -9,7 +9,6 @@ use Rattle.rd_origin.specs.Origins.{origin_in}
 use Rattle.rd_origin.specs.Writers.{last_writer_in}
 use Rattle.rd_marks.specs.declared.commands.Command.{Command}
 use Rattle.rd_marks.specs.declared.commands.Command.TheVariants as command
-use Rattle.rd_marks.specs.declared.commands.Search.TheVariants as search
 use Rattle.rd_marks.specs.declared.replies.Reply.{Reply}
 use Rattle.rd_marks.specs.declared.replies.Reply.TheVariants as reply
 use Rattle.rd_marks.specs.Beginnings.{NeedsNoEntry}
@@ -70,7 +69,7 @@ AnswersQuery b (command.MarkAt i) answer = answer ≡ result_map (λ m. reply.Ma
 AnswersQuery b (command.Same one other) answer =
     (said : Result Bool Refusal) × AnswersSame b.session.start (events_by_name b.marks one) (events_by_name b.marks other) said × (answer ≡ result_map reply.Same said)
 AnswersQuery b (command.Origin k) answer = answer ≡ query_reply b reply.Origin (λ ran. origin_in ran.entries k)
-AnswersQuery b (command.Writer place) answer = answer ≡ query_reply b (reply.Found search.Writer) (λ ran. last_writer_in ran place)
+AnswersQuery b (command.Writer place) answer = answer ≡ query_reply b reply.Writer (λ ran. last_writer_in ran place)
 AnswersQuery b (command.Show place) answer = answer ≡ query_reply b reply.Content (λ ran. ok_or (content_at ran.world.at place) refusal.NoSuchPlace)
 AnswersQuery b (command.Actor n) answer = answer ≡ query_reply b reply.Actor (λ ran. ok_or (ran.world.actor n) refusal.NoActor)
 AnswersQuery b (command.Step k) answer = answer ≡ query_reply b (reply.Step k) (λ ran. ok_or (numbered ran.entries k) (refusal.NoSuchStep (length ran.entries)))

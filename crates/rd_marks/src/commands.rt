@@ -65,13 +65,6 @@ pub enum Command {
     Len,
 }
 
-/// A query that is answered by its keyword and the number of a live step, or none.
-#[derive(Clone, Copy, Debug, PartialEq, Eq)]
-pub enum Search {
-    /// `writer PLACE`: the last live step that wrote the place or a place that it names.
-    Writer,
-}
-
 impl Command {
     /// Returns the event that the command makes happen, or `None` if it is no event.
     pub fn as_event(&self) -> Option<Event>

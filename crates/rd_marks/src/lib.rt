@@ -13,6 +13,6 @@ mod replies;
 mod stretches;
 
 pub use books::Book;
-pub use commands::{Command, Search};
+pub use commands::Command;
 pub use names::MarkName;
 pub use replies::{EventReply, Reply};

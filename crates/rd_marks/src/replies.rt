@@ -1,6 +1,5 @@
 //! The reply to a command that is not refused.
 
-use super::commands::Search;
 use super::names::MarkName;
 use rd_actor::{Actor, OpReply};
 use rd_cell::Content;
@@ -50,8 +49,8 @@ pub enum Reply {
     Same(bool),
     /// The origin of a value that was taken.
     Origin(Origin),
-    /// The number of the live step that a search found, or `None` if it found none.
-    Found(Search, Option<u64>),
+    /// The number of the last live step that wrote a place, or `None` if none did.
+    Writer(Option<u64>),
     /// The content of a place.
     Content(Content),
     /// The record of an actor.

@@ -4,7 +4,6 @@ use Rattle.std.specs.Prelude.{ℕ, List, [], ◌∷◌, ◌++◌, codes, Option,
 use Rattle.rd_step.specs.Prelude.{OpReply}
 use Rattle.rd_origin.specs.declared.origins.Origin.{Origin}
 use Rattle.rd_marks.specs.Names.{bytes_of}
-use Rattle.rd_marks.specs.declared.commands.Search.TheVariants as search
 use Rattle.rd_marks.specs.declared.replies.Reply.{Reply}
 use Rattle.rd_marks.specs.declared.replies.Reply.TheVariants as reply
 use Rattle.rd_script.specs.declared.answers.AnyRefusal.{AnyRefusal}
@@ -38,7 +37,7 @@ reply_words (reply.Marks count) = codes "marks" ++ spaced_number count
 reply_words (reply.Mark name len) = codes "mark " ++ bytes_of name ++ spaced_number len
 reply_words (reply.Same same) = codes "same " ++ yes_or_no same
 reply_words (reply.Origin origin) = origin_words origin
-reply_words (reply.Found search.Writer step) = number_or_none (codes "writer") step
+reply_words (reply.Writer step) = number_or_none (codes "writer") step
 reply_words (reply.Content content) = codes "is " ++ content_words content
 reply_words (reply.Actor actor) = actor_words actor
 reply_words (reply.Step number entry) = step_words number entry

@@ -5,7 +5,7 @@ ghost use Rattle.rd_step.specs.declared.entries.Event.{Event as Happening};
 ghost use Rattle.rd_journal.specs.Sessions.{journal, MayRefuse};
 ghost use Rattle.std.specs.Result.{ForErr};
 
-use super::super::commands::{Command, Search};
+use super::super::commands::Command;
 use super::super::laws::a_book_is_the_run_of_its_live_events;
 use super::super::replies::{EventReply, Reply};
 use super::Book;
@@ -60,10 +60,7 @@ impl<const R: usize> Book<R> {
             Command::MarkAt(i) => self.mark_at(i).map(|(name, len)| Reply::Mark { name, len }),
             Command::Same(one, other) => self.same(one, other).map(Reply::Same),
             Command::Origin(k) => origin(&self.session, k).map(Reply::Origin),
-            Command::Writer(place) => {
-                let step = last_writer(&self.session, place)?;
-                Ok(Reply::Found(Search::Writer, step))
-            }
+            Command::Writer(place) => last_writer(&self.session, place).map(Reply::Writer),
             Command::Show(place) => match self.session.world().content(place) {
                 None => Err(Refusal::NoSuchPlace),
                 Some(content) => Ok(Reply::Content(content)),

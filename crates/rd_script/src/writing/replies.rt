@@ -11,7 +11,7 @@ use super::numbers::{put_number_or_hyphen, put_spaced_number, put_words_and_numb
 use super::steps::{put_result, put_step};
 use super::texts::{Text, put};
 use rd_actor::OpReply;
-use rd_marks::{MarkName, Reply, Search};
+use rd_marks::{MarkName, Reply};
 use rd_origin::Origin;
 
 /// Appends to the text the words of a reply.
@@ -40,7 +40,7 @@ pub fn put_reply(text: &mut Text, reply: &Reply)
             put(text, yes_or_no(same));
         }
         Reply::Origin(origin) => put_origin(text, origin),
-        Reply::Found(Search::Writer, step) => put_number_or_none(text, b"writer", step),
+        Reply::Writer(step) => put_number_or_none(text, b"writer", step),
         Reply::Content(content) => {
             put(text, b"is ");
             put_content(text, content);

@@ -70,8 +70,8 @@ returns-in-Same-clause-memory g c = no_event_refused _ c.args.self.now.session _
 pub returns-in-Origin-clause-memory : goal.returns-in-Origin-clause-memory
 returns-in-Origin-clause-memory g c = no_event_refused _ c.args.self.now.session _ (ap as_event c.in-Origin.is)
 
-pub returns-in_err-step-in-Writer-clause-memory : goal.returns-in_err-step-in-Writer-clause-memory
-returns-in_err-step-in-Writer-clause-memory g c = no_event_refused _ c.args.self.now.session _ (ap as_event c.in-Writer.is)
+pub returns-in-Writer-clause-memory : goal.returns-in-Writer-clause-memory
+returns-in-Writer-clause-memory g c = no_event_refused _ c.args.self.now.session _ (ap as_event c.in-Writer.is)
 
 pub returns-in-Step-clause-memory : goal.returns-in-Step-clause-memory
 returns-in-Step-clause-memory g c = no_event_refused _ c.args.self.now.session _ (ap as_event c.in-Step.is)
