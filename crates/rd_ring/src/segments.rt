@@ -76,9 +76,9 @@ impl<const R: usize> Segment<R> {
     }
 
     /// Returns the segment with these words, whose counters must be at most 2^62.
-    pub fn from_parts(parts: SegmentParts<R>) -> Self
-        requires { IsTrue (counters_fit parts) }
-        ensures { (q : Place) → segment_contents result q ≡ parts_contents parts.entry q }
+    pub fn from_parts(parts: &SegmentParts<R>) -> Self
+        requires { IsTrue (counters_fit parts.now) }
+        ensures { (q : Place) → segment_contents result q ≡ parts_contents parts.now q }
     {
         Segment {
             head: parts.head,

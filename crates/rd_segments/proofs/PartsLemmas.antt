@@ -1,14 +1,26 @@
--- Two lists that agree number by number, in what `f` finds in one and `g` in the other.
-use Rattle.rd_segments.proofs.Prelude.{◌≡◌, ℕ, ◌+◌, ◌<◌, ◌++◌, arith, List, [], ◌∷◌, length, get_or, Option, Some, None, slice_get, slice_get-push_same, slice_get-push_other, slice_get_past, slice_get_read}
+-- Lists of which one was made of the other, element by element.
+use Rattle.rd_segments.proofs.Prelude.{◌≡◌, ℕ, zero, suc, ◌+◌, ◌<◌, List, [], ◌∷◌, ◌++◌, length, get_or, take, Option, Some, None, slice_get, SegName, ListOf, by_name, element_in}
+use Rattle.std.specs.List.{AllZip}
+use Rattle.std.proofs.lemmas.List.{take_more}
+use Rattle.std.proofs.lemmas.Slice.Zip.{all_zipped_more}
 
-module _ {X Y A : Type 0} (f : Option X → A) (g : Option Y → A) where
-  -- where lists agree below n, they agree below n + 1 once the first gets, as its element n, one
-  -- that agrees with the second's
-  pub agree_pushed : (old new : List X) (x : X) (ys : List Y) (y : Y) (n : ℕ) → new ≡ old ++ x ∷ [] → y ≡ get_or ys n y → length old ≡ n → n < length ys
-      → f (Some x) ≡ g (Some y) → (k : ℕ) → (k < n → f (slice_get old k) ≡ g (slice_get ys k)) → k < n + 1 → f (slice_get new k) ≡ g (slice_get ys k)
-  agree_pushed old new x ys y n pushed read old_len within here k below h = grind (arith, slice_get-push_same, slice_get-push_other, slice_get_read)
+module _ {X Y : Type 0} (R : X → Y → Type 0) where
+  -- one more element was made of the next one
+  pub one_more_made : (xs : List X) (i : ℕ) (x : X) (ys zs : List Y) (y : Y) → i < length xs → x ≡ get_or xs i x → zs ≡ ys ++ y ∷ []
+      → AllZip R (take i xs) ys → R x y → AllZip R (take (i + 1) xs) zs
+  one_more_made xs i x ys zs y within here pushed so_far made = rw (pushed, take_more xs i x within, ← here) (all_zipped_more R (take i xs) ys x y so_far made)
 
-  -- two lists of length n that agree below n agree everywhere
-  pub agree_all : (xs : List X) (ys : List Y) (n : ℕ) → length xs ≡ n → length ys ≡ n → f None ≡ g None → (k : ℕ)
-      → (k < n → f (slice_get xs k) ≡ g (slice_get ys k)) → f (slice_get xs k) ≡ g (slice_get ys k)
-  agree_all xs ys n xs_len ys_len none k below = grind (arith, slice_get_past)
+  module _ {A : Type 0} (f : Option Y → A) (g : Option X → A) (none : f None ≡ g None) (each : (x : X) (y : Y) → R x y → f (Some y) ≡ g (Some x)) where
+    -- if f finds in what was made of an element what g finds in the element, they agree at each
+    -- index
+    agree : (xs : List X) (ys : List Y) → AllZip R xs ys → (k : ℕ) → f (slice_get ys k) ≡ g (slice_get xs k)
+    agree [] [] h k = none
+    agree (x ∷ xs) (y ∷ ys) h zero = each x y h.0
+    agree (x ∷ xs) (y ∷ ys) h (suc k) = agree xs ys h.1 k
+    agree _ _ h k = absurd h
+
+-- and so at each name, in the makers' lists
+pub agree_by_name : {X Y A : Type 0} (R : X → Y → Type 0) (f : Option Y → A) (g : Option X → A) → f None ≡ g None → ((x : X) (y : Y) → R x y → f (Some y) ≡ g (Some x))
+    → (xs : List (ListOf X)) (ys : List (ListOf Y)) → AllZip (λ list its. AllZip R list.items its.items) xs ys → (s : SegName) → f (by_name ys s) ≡ g (by_name xs s)
+agree_by_name R f g none each xs ys h s =
+    agree _ (λ o. f (element_in o s.n)) (λ o. g (element_in o s.n)) none (λ list its all. agree R f g none each list.items its.items all s.n) xs ys h s.maker

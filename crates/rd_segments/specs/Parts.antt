@@ -1,13 +1,12 @@
 -- A space that is put together from parts.
-use Rattle.std.specs.Prelude.{◌≡◌, ℕ, Bool, List, Option, slice_get, option_and_then}
+use Rattle.std.specs.Prelude.{ℕ, Bool, List, Option, option_and_then}
 use Rattle.std.specs.List.{list_all}
-use Rattle.rd_ring.specs.Prelude.{SegName, Place, Contents}
-use Rattle.rd_ring.specs.declared.segments.Segment.{Segment}
+use Rattle.rd_ring.specs.Prelude.{SegName, Contents}
 use Rattle.rd_ring.specs.declared.parts.SegmentParts.{SegmentParts}
 use Rattle.rd_ring.specs.Segments.{parts_contents}
 use Rattle.rd_segments.specs.declared.array.ArrayParts.{ArrayParts}
 use Rattle.rd_segments.specs.Array.{array_contents}
-use Rattle.rd_segments.specs.Lists.{ListOf, by_name, some_contents, contents_of_segments}
+use Rattle.rd_segments.specs.Lists.{ListOf, by_name, contents_of_segments}
 use Rattle.rd_segments.specs.SpaceFields.{contents_with}
 
 -- the content of each place of the segment that these parts describe; none without parts
@@ -22,7 +21,3 @@ contents_of_parts makers qhead qtail array = contents_with (contents_of_segments
 -- whether each segment in the makers' lists passes a test
 abbrev pub each_segment : {R : ℕ} → (SegmentParts R → Bool) → List (ListOf (SegmentParts R)) → Bool
 each_segment test makers = list_all (λ list. list_all test list.items) makers
-
--- the list has the segments that these parts describe, in the same order
-pub record IsOfParts {R : ℕ} (parts : ListOf (SegmentParts R)) (list : ListOf (Segment R)) : Type 0 where
-  pub at : (n : ℕ) (q : Place) → some_contents (slice_get list.items n) q ≡ some_parts_contents (slice_get parts.items n) q

@@ -2,11 +2,12 @@
 //! segments have `R` cells, which must be at most 64.
 
 ghost use Rattle.std.specs.Prelude.{◌≡◌, ◌≤◌, IsTrue, IfOk, length};
-ghost use Rattle.std.specs.List.{list_all};
+ghost use Rattle.std.specs.Fn.{FnReturnsAt};
+ghost use Rattle.std.specs.List.{AllZip, Contains};
 ghost use Rattle.rd_ring.specs.Prelude.{MOST_CELLS, SegName, Place};
 ghost use Rattle.rd_ring.specs.Segments.{counters_fit};
 ghost use Rattle.rd_segments.specs.Lists.{by_name, some_contents};
-ghost use Rattle.rd_segments.specs.Parts.{some_parts_contents, each_segment, IsOfParts};
+ghost use Rattle.rd_segments.specs.Parts.{some_parts_contents, each_segment};
 
 use rd_ring::{Segment, SegmentParts};
 use std::alloc::{AllocError, Global};
@@ -28,29 +29,7 @@ pub fn lists_from_parts<const R: usize>(
         ≡ some_parts_contents (by_name parts.now.items s) q) }
     ensures number { IfOk result (λ makers. length makers.items ≡ length parts.now.items) }
 {
-    let mut makers = Vec::with_capacity(alloc, parts.len())?;
-    for m in 0..parts.len() {
-        let list = list_from_parts(alloc, &parts[m])?;
-        makers.push_reserved(list);
-    }
-    Ok(makers)
-}
-
-/// Returns one maker's list with the segments that these parts describe, whose counters must be at
-/// most 2^62. Fails only if memory is refused.
-fn list_from_parts<const R: usize>(
-    alloc: Global,
-    parts: &Vec<SegmentParts<R>>,
-) -> Result<Vec<Segment<R>>, AllocError>
-    requires small { R ≤ MOST_CELLS }
-    requires within { IsTrue (list_all counters_fit parts.now.items) }
-    ensures ok { IfOk result (λ list. IsOfParts parts.now list) }
-{
-    let mut list = Vec::with_capacity(alloc, parts.len())?;
-    for n in 0..parts.len() {
-        list.push_reserved(Segment::from_parts(parts[n]));
-    }
-    Ok(list)
+    made_of_lists(alloc, parts, Segment::from_parts)
 }
 
 /// Returns the parts of the makers' lists; `lists_from_parts` makes equal lists from them.
@@ -68,25 +47,42 @@ pub fn parts_of_lists<const R: usize>(
         ≡ some_contents (by_name makers.now.items s) q) }
     ensures number { IfOk result (λ parts. length parts.items ≡ length makers.now.items) }
 {
-    let mut parts = Vec::with_capacity(alloc, makers.len())?;
-    for m in 0..makers.len() {
-        let list = parts_of_list(alloc, &makers[m])?;
-        parts.push_reserved(list);
-    }
-    Ok(parts)
+    made_of_lists(alloc, makers, Segment::parts)
 }
 
-/// Returns the parts of one maker's list. Fails only if memory is refused.
-fn parts_of_list<const R: usize>(
+/// Returns lists with what `make` returns for each element of these, in the same order. It must be
+/// possible to call `make` with each element. Fails only if memory is refused.
+fn made_of_lists<X, Y: Drop, F: Fn(&X) -> Y + Copy>(
     alloc: Global,
-    list: &Vec<Segment<R>>,
-) -> Result<Vec<SegmentParts<R>>, AllocError>
-    requires { R ≤ MOST_CELLS }
-    ensures ok { IfOk result (λ parts. IsOfParts parts list.now) }
+    lists: &Vec<Vec<X>>,
+    make: F,
+) -> Result<Vec<Vec<Y>>, AllocError>
+    requires { (list x : _) → Contains lists.now.items list → Contains list.items x.now
+        → F.pre make x }
+    ensures { IfOk result (λ made. AllZip (λ list its. AllZip (FnReturnsAt F.Fn make)
+        list.items its.items) lists.now.items made.items) }
 {
-    let mut parts = Vec::with_capacity(alloc, list.len())?;
-    for n in 0..list.len() {
-        parts.push_reserved(list[n].parts());
+    let mut made = Vec::with_capacity(alloc, lists.len())?;
+    for m in 0..lists.len() {
+        let list = made_of_list(alloc, &lists[m], make)?;
+        made.push_reserved(list);
     }
-    Ok(parts)
+    Ok(made)
+}
+
+/// Returns what `make` returns for each element, in the same order. It must be possible to call
+/// `make` with each. Fails only if memory is refused.
+fn made_of_list<X, Y: Drop, F: Fn(&X) -> Y>(
+    alloc: Global,
+    list: &Vec<X>,
+    make: F,
+) -> Result<Vec<Y>, AllocError>
+    requires { (x : _) → Contains list.now.items x.now → F.pre make x }
+    ensures { IfOk result (λ made. AllZip (FnReturnsAt F.Fn make) list.now.items made.items) }
+{
+    let mut made = Vec::with_capacity(alloc, list.len())?;
+    for n in 0..list.len() {
+        made.push_reserved(make(&list[n]));
+    }
+    Ok(made)
 }

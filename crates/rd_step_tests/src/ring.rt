@@ -133,7 +133,7 @@ const PARTS: SegmentParts<2> = SegmentParts {
 
 #[test]
 fn a_segment_has_the_words_that_are_handed_in(rt: HostRuntime) {
-    let segment = Segment::<2>::from_parts(PARTS);
+    let segment = Segment::<2>::from_parts(&PARTS);
     same(&rt, counters(&segment), (3, (true, 5)));
     same(&rt, segment.next(), Some(FOLLOWS));
     same(&rt, segment.cell(1), Some(MARKED));

@@ -1,7 +1,0 @@
-use Rattle.rd_segments.proofs.Prelude.{◌≡◌, ℕ, ◌<◌, slice_get, length, vec_len, vec_capacity, Place, element_in, some_contents, some_parts_contents}
-use Rattle.rd_segments.proofs.parts.parts_of_lists.Given as goal
-
-abbrev pub invariant-loop-m : goal.invariant-loop-m
-invariant-loop-m g l =
-    (vec_len l.parts ≡ l.m) × (vec_capacity l.parts ≡ length l.fn.makers.items)
-    × ((k n : ℕ) (q : Place) → k < l.m → some_parts_contents (element_in (slice_get l.parts.items k) n) q ≡ some_contents (element_in (slice_get l.fn.makers.items k) n) q)
