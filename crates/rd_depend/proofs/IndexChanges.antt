@@ -5,14 +5,14 @@ use Rattle.rd_depend.proofs.IndexKeys.{is_home, is_in, is_under-is_in, separate}
 use Rattle.rd_depend.proofs.IndexPositions.{positions-push, positions-pop, count_by-append, count_by-cons}
 
 -- what is ready stays ready if no list changes
-pub ready_kept : (t u : Table) (k : Option Key) (wrote : Bool) (slot : Option ℕ) → KeepsLists t u → IsReadyIfSome t k wrote slot → IsReadyIfSome u k wrote slot
-ready_kept t u k wrote slot keeps ready = grind arith
+pub ready_kept : (t u : Table) (k : Option Key) (wrote : Bool) (row : Option ℕ) → KeepsLists t u → IsReadyIfSome t k wrote row → IsReadyIfSome u k wrote row
+ready_kept t u k wrote row keeps ready = grind arith
 
 -- what is ready under one key stays ready if a position is put under another
-pub ready_after : (t u : Table) (s : Option Key) (wrote : Bool) (h : EntryKey) (p : ℕ) (slot : Option ℕ)
+pub ready_after : (t u : Table) (s : Option Key) (wrote : Bool) (h : EntryKey) (p : ℕ) (row : Option ℕ)
     → ((w : Bool) (q : Key) → s ≡ Some q → is_kept_in w wrote ≡ true → is_home h w q ≡ false)
-    → IsReadyIfSome t s wrote slot → Puts h.key h.wrote p t u → IsReadyIfSome u s wrote slot
-ready_after t u s wrote h p slot apart ready put = grind arith
+    → IsReadyIfSome t s wrote row → Puts h.key h.wrote p t u → IsReadyIfSome u s wrote row
+ready_after t u s wrote h p row apart ready put = grind arith
 
 -- a list that has a last position keeps it if one is removed under another key
 pub last_after : (t u : Table) (s : Option Key) (wrote : Bool) (h : EntryKey)

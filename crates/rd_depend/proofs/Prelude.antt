@@ -16,7 +16,7 @@ pub use Rattle.rd_step.specs.declared.entries.Entry.{Entry}
 pub use Rattle.rd_step.specs.declared.entries.Event.{Event}
 pub use Rattle.rd_depend.specs.Changes.{Adds, KeepsPositions, entry_keys}
 pub use Rattle.rd_depend.specs.Index.{By, EndsWith, GivesRoom, HasRoomFor, HasRoomInstead, IsIndexOf, HasSameRoom, ListKey, Under, UsesRoom, capacity, kept, positions, positions_from, spare, touched_or_written, is_listed_for}
-unfoldable pub use Rattle.rd_depend.specs.Keys.{slot_in}
+unfoldable pub use Rattle.rd_depend.specs.Keys.{row_in}
 unfoldable pub use Rattle.rd_depend.specs.Lists.{IsMoved}
 pub use Rattle.rd_depend.specs.KeyLaws.{key_eq-refl, key_eq-sym, key_eq-true}
 pub use Rattle.rd_depend.specs.Keys.{some_key_eq, is_under, is_value_written, is_under_some, key_eq, search_key, value_key_of_place, whole_key}

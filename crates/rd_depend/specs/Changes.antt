@@ -4,7 +4,7 @@ use Rattle.rd_step.specs.Prelude.{is_nothing}
 use Rattle.rd_step.specs.declared.entries.Entry.{Entry}
 use Rattle.rd_depend.specs.declared.index.DependIndex.{DependIndex}
 use Rattle.rd_depend.specs.declared.index.changing.EntryKeys.{EntryKeys}
-use Rattle.rd_depend.specs.declared.index.changing.Slots.{Slots}
+use Rattle.rd_depend.specs.declared.index.changing.KeyRows.{KeyRows}
 use Rattle.rd_depend.specs.Index.{ListKey, is_listed_for, kept, spare, position_count}
 use Rattle.rd_depend.specs.Keys.{place_key, value_key, segment_key, is_value_written}
 use Rattle.rd_depend.specs.Tables.{spare_at, IsReadyIfSome}
@@ -32,10 +32,10 @@ entry_keys x = record {
 }
 
 -- the list of the entry's actor, and those that are to keep the entry under the keys `homes`, have
--- room for one more position; these keys have the indices `slots` in the table, none where there is
--- no key
-pub record IsReadyFor (index : DependIndex) (x : Entry) (homes : EntryKeys) (slots : Slots) : Type 0 where
+-- room for one more position; these keys have the rows `rows` in the table, none where there is no
+-- key
+pub record IsReadyFor (index : DependIndex) (x : Entry) (homes : EntryKeys) (rows : KeyRows) : Type 0 where
   pub actor : 0 < spare_at index.by_actor.items x.event.actor
-  pub place : IsReadyIfSome index.by_key homes.place.key homes.place.wrote slots.place
-  pub value : IsReadyIfSome index.by_key homes.value.key homes.value.wrote slots.value
-  pub segment : IsReadyIfSome index.by_key homes.segment.key homes.segment.wrote slots.segment
+  pub place : IsReadyIfSome index.by_key homes.place.key homes.place.wrote rows.place
+  pub value : IsReadyIfSome index.by_key homes.value.key homes.value.wrote rows.value
+  pub segment : IsReadyIfSome index.by_key homes.segment.key homes.segment.wrote rows.segment

@@ -77,9 +77,9 @@ search_key p = At (index_half p)
 abbrev pub whole_key : Place → Option Key
 whole_key p = option_map (λ s. At (place.Whole s)) (segment_of p)
 
--- the index, from 0, of the first of these keys that is equal to this one; none if no key is
-unfoldable pub slot_in : List Key → Key → Option ℕ
-slot_in keys k = position (key_eq k) keys
+-- the row, from 0, of the first of these keys that is equal to this one; none if no key is
+unfoldable pub row_in : List Key → Key → Option ℕ
+row_in keys k = position (key_eq k) keys
 
 -- a kind of key, an index and a segment's name as one number. Each has digits of its own if index
 -- and maker are below 2^8 and the name's `n` is below 2^32

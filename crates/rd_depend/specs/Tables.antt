@@ -10,7 +10,7 @@ use Rattle.rd_depend.specs.declared.index.keys.Key.{Key}
 use Rattle.rd_depend.specs.declared.index.table.Table.{Table}
 use Rattle.rd_depend.specs.declared.index.table.Among.{Among}
 use Rattle.rd_depend.specs.declared.index.table.Among.TheVariants as among
-use Rattle.rd_depend.specs.Keys.{some_key_eq, slot_in}
+use Rattle.rd_depend.specs.Keys.{some_key_eq, row_in}
 use Rattle.rd_depend.specs.Lists.{IsAscending, IsMoved}
 
 -- lists of positions, each known by its number
@@ -63,12 +63,12 @@ lists_of t true = t.writes.items
 -- the positions kept under a key; if the bit is true, only those of steps that wrote. There are
 -- none if the key isn't in the table
 abbrev pub kept_in : Table → Bool → Key → List ℕ
-kept_in t only_writes k = some_list_at (lists_of t only_writes) (slot_in t.keys.keys k)
+kept_in t only_writes k = some_list_at (lists_of t only_writes) (row_in t.keys.keys k)
 
 -- the number of positions that this one of a key's two lists can have before it has to grow; 0 if
 -- the key isn't in the table
 abbrev pub capacity_in : Table → Bool → Key → ℕ
-capacity_in t only_writes k = some_capacity_at (lists_of t only_writes) (slot_in t.keys.keys k)
+capacity_in t only_writes k = some_capacity_at (lists_of t only_writes) (row_in t.keys.keys k)
 
 -- the number of positions for which this one of a key's two lists has room left; 0 if the key isn't
 -- in the table
@@ -81,14 +81,13 @@ abbrev pub is_kept_in : Bool → Bool → Bool
 is_kept_in false wrote = true
 is_kept_in true wrote = wrote
 
--- the key has this index, and each of its lists that is to keep the step has room for one more
+-- the key has this row, and each of its lists that is to keep the step has room for one more
 -- position
 pub record IsReady (t : Table) (k : Key) (wrote : Bool) (i : ℕ) : Type 0 where
-  pub at : slot_in t.keys.keys k ≡ Some i
+  pub at : row_in t.keys.keys k ≡ Some i
   pub room : (only_writes : Bool) → is_kept_in only_writes wrote ≡ true → 0 < spare_in t only_writes k
 
--- the key has this index, and its lists have room for the step; or there is neither a key nor an
--- index
+-- the key has this row, and its lists have room for the step; or there is neither a key nor a row
 abbrev pub IsReadyIfSome : Table → Option Key → Bool → Option ℕ → Type 0
 IsReadyIfSome t None wrote o = o ≡ None
 IsReadyIfSome t (Some k) wrote o = (i : ℕ) × (o ≡ Some i) × IsReady t k wrote i
@@ -97,19 +96,19 @@ IsReadyIfSome t (Some k) wrote o = (i : ℕ) × (o ≡ Some i) × IsReady t k wr
 abbrev pub HasLast : Table → Option Key → Bool → Type 0
 HasLast t o wrote = (only_writes : Bool) (k : Key) → o ≡ Some k → is_kept_in only_writes wrote ≡ true → 1 ≤ length (kept_in t only_writes k)
 
--- the lists are as before, no room was lost, and the keys that were there have their old indices
+-- the lists are as before, no room was lost, and the keys that were there have their old rows
 pub record KeepsLists (old new : Table) : Type 0 where
   pub lists : (only_writes : Bool) (k : Key) → kept_in new only_writes k ≡ kept_in old only_writes k
   pub room : (only_writes : Bool) (k : Key) → spare_in old only_writes k ≤ spare_in new only_writes k
-  pub slots : (k : Key) (i : ℕ) → slot_in old.keys.keys k ≡ Some i → slot_in new.keys.keys k ≡ Some i
+  pub rows : (k : Key) (i : ℕ) → row_in old.keys.keys k ≡ Some i → row_in new.keys.keys k ≡ Some i
 
 -- the position was put at the end of those of the key's lists that are to keep the step, which lost
 -- room for at most one. The other lists, or all without a key, are as before and lost no room. The
--- keys have their old indices
+-- keys have their old rows
 pub record Puts (k : Option Key) (wrote : Bool) (position : ℕ) (old new : Table) : Type 0 where
   pub lists : (only_writes : Bool) (q : Key) → kept_in new only_writes q ≡ (if is_kept_in only_writes wrote && some_key_eq q k then kept_in old only_writes q ++ position ∷ [] else kept_in old only_writes q)
   pub room : (only_writes : Bool) (q : Key) → spare_in old only_writes q ≤ spare_in new only_writes q + cond (is_kept_in only_writes wrote && some_key_eq q k) 1 0
-  pub slots : (q : Key) → slot_in new.keys.keys q ≡ slot_in old.keys.keys q
+  pub rows : (q : Key) → row_in new.keys.keys q ≡ row_in old.keys.keys q
 
 -- those of the key's lists that keep the step lost their last position and have room for one more;
 -- the other lists, or all without a key, are as before

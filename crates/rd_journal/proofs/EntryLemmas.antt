@@ -7,7 +7,7 @@ use Rattle.rd_journal.proofs.Numbers.{at-length, order_below}
 
 pub all-length : (r : Entries) → length (all_entries r) ≡ length r.order.items
 unfolding all_entries
-all-length r = at-length r.slots.items r.order.items (order_below (length r.slots.items) r.order.items r.order_of_all)
+all-length r = at-length r.slab.items r.order.items (order_below (length r.slab.items) r.order.items r.order_of_all)
 
 pub live-length : (r : Entries) → length (live_entries r) ≡ r.live
 live-length r = length-take-le r.live (all_entries r) (omega (arith, all-length r, r.within))
@@ -18,7 +18,7 @@ ahead-length r = grind (arith, length-take-le, all-length, length-drop)
 pub kept-length : (r : Entries) → length (kept_entries r) ≡ r.live + r.ahead
 kept-length r = omega (arith, length-append (live_entries r) (ahead_entries r), live-length r, ahead-length r)
 
--- how long the parts are, and that their numbers are below the number of slots
+-- how long the parts are, and that their numbers are below the slab's length
 pub ruleset lengths = (all-length, live-length, ahead-length, kept-length, at-length, order_below)
 
 -- if no entry is ahead, the number of those ahead is 0

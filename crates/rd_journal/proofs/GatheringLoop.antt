@@ -6,7 +6,7 @@ use Rattle.rd_journal.proofs.RoomLemmas.{fits_between}
 use Rattle.rd_journal.proofs.ListLemmas.{drop_one_less}
 use Rattle.rd_journal.proofs.Numbers.{take_one-drop, at-append, at-length, at-take, at-drop, at-get, order_below}
 
--- the live entries among these slots, in their order
+-- the live entries of this slab, in their order
 abbrev pub live_of : List Entry → List ℕ → ℕ → List Entry
 live_of es ns live = take live (at_numbers es ns)
 

@@ -1,5 +1,5 @@
--- Entries by the numbers of their slots: parts of the list, one entry more, one written over; and
--- orders of slots as their numbers move.
+-- Entries by their numbers in a slab: parts of the list, one entry more, one written over; and
+-- orders as their numbers move.
 use Rattle.rd_journal.proofs.Prelude.{◌≡◌, ℕ, zero, suc, ◌+◌, ◌-◌, ◌<◌, ◌≤◌, ◌==◌, Bool, cond, if◌then◌else◌, List, [], ◌∷◌, ◌++◌, length, get_or, map, take, drop, set, refl, sym, ◌∙◌, ap, subst, arith, length-append, All, count_by, flat_map-append, drop_more, take-append-drop, drop-append-le, length-set, get_or-set_same, drop-drop, get_or_default, sum_by-append, sum_by-cons, sum_by_push, sum_by-take-drop, get_or-le-sum_by, moved_to, at_numbers, IsOrder, get_or-map, nat_tests, All-take, All-drop, length-drop, length-take}
 use Rattle.rd_journal.proofs.ListLemmas.{nth}
 
@@ -7,7 +7,7 @@ use Rattle.rd_journal.proofs.ListLemmas.{nth}
 abbrev pub AreBelow : ℕ → List ℕ → Type 0
 AreBelow n ns = All (λ m. m < n) ns
 
--- the list of the entry in one slot
+-- the list of one entry of the slab
 pub take_one-drop : {X : Type 0} (es : List X) (n : ℕ) (x : X) → n < length es → x ≡ get_or es n x → take 1 (drop n es) ≡ x ∷ []
 take_one-drop {X} es n x h e = ap (λ (ys : List X). take 1 ys) (drop_more es n x h) ∙ (λ i. sym e i ∷ [])
 
@@ -16,7 +16,7 @@ take_one-drop {X} es n x h e = ap (λ (ys : List X). take 1 ys) (drop_more es n 
 pub at-append : {X : Type 0} (es : List X) (ms ns : List ℕ) → at_numbers es (ms ++ ns) ≡ at_numbers es ms ++ at_numbers es ns
 at-append es ms ns = flat_map-append (λ n. take 1 (drop n es)) ms ns
 
--- the entries are what is read in the slots of the numbers
+-- the entries are what is read in the slab by the numbers
 at-map : {X : Type 0} (es : List X) (ns : List ℕ) (d : X) → AreBelow (length es) ns → at_numbers es ns ≡ map (λ n. get_or es n d) ns
 at-map es [] d h = refl
 at-map {X} es (n ∷ ns) d h =
@@ -40,7 +40,7 @@ pub at-get : {X : Type 0} (es : List X) (ns : List ℕ) (k : ℕ) (d : X) (e : �
     → get_or (at_numbers es ns) k d ≡ get_or es (get_or ns k e) d
 at-get {X} es ns k d e h below = ap (λ (ys : List X). get_or ys k d) (at-map es ns d h) ∙ get_or-map (λ n. get_or es n d) ns k e d below
 
--- one slot written over, and one more
+-- one entry written over, and one more
 
 take_one-set_other : {X : Type 0} (es : List X) (n v : ℕ) (x : X) → (n ≡ v → ⊥) → take 1 (drop n (set es v x)) ≡ take 1 (drop n es)
 take_one-set_other (y ∷ es) (suc n) (suc v) x h = take_one-set_other es n v x (λ e. h (ap (λ (m : ℕ). suc m) e))
@@ -62,13 +62,13 @@ at-push es x (n ∷ ns) h =
 
 -- orders
 
-pub order_below : (slots : ℕ) (ns : List ℕ) → IsOrder slots ns → AreBelow slots ns
-order_below slots ns o = λ k d within. grind (arith, get_or-le-sum_by (λ m. cond (m == get_or ns k d) 1 0) ns k d within, count-same, o.once (get_or ns k d))
+pub order_below : (count : ℕ) (ns : List ℕ) → IsOrder count ns → AreBelow count ns
+order_below count ns o = λ k d within. grind (arith, get_or-le-sum_by (λ m. cond (m == get_or ns k d) 1 0) ns k d within, count-same, o.once (get_or ns k d))
 
-pub order_push : (slots : ℕ) (ns : List ℕ) → IsOrder slots ns → IsOrder (slots + 1) (ns ++ slots ∷ [])
-order_push slots ns o = record {
-  once = λ n. grind (arith, nat_tests, sum_by_push (λ m. cond (m == n) 1 0) ns slots, o.once n);
-  all = omega (arith, length-append ns (slots ∷ []), o.all);
+pub order_push : (count : ℕ) (ns : List ℕ) → IsOrder count ns → IsOrder (count + 1) (ns ++ count ∷ [])
+order_push count ns o = record {
+  once = λ n. grind (arith, nat_tests, sum_by_push (λ m. cond (m == n) 1 0) ns count, o.once n);
+  all = omega (arith, length-append ns (count ∷ []), o.all);
 }
 
 -- what is put at a place of an order

@@ -4,10 +4,10 @@ use Rattle.rd_step.specs.declared.entries.Entry.{Entry}
 use Rattle.rd_journal.specs.declared.entries.Entries.{Entries}
 use Rattle.rd_journal.specs.Numbers.{at_numbers}
 
--- all entries, in the order in which the list of slot numbers has them: first of the live steps,
--- then of the steps ahead of them, then the discarded ones
+-- all entries, in the order in which their numbers are listed: first of the live steps, then of the
+-- steps ahead of them, then the discarded ones
 unfoldable pub all_entries : Entries → List Entry
-all_entries r = at_numbers r.slots.items r.order.items
+all_entries r = at_numbers r.slab.items r.order.items
 
 -- the entries of the live steps, in their order
 abbrev pub live_entries : Entries → List Entry
@@ -24,4 +24,4 @@ kept_entries r = live_entries r ++ ahead_entries r
 
 -- the number of entries, live and ahead together, for which each of the three lists has room
 abbrev pub entries_capacity : Entries → ℕ
-entries_capacity r = min (vec_capacity r.slots) (min (vec_capacity r.order) (vec_capacity r.gathered))
+entries_capacity r = min (vec_capacity r.slab) (min (vec_capacity r.order) (vec_capacity r.gathered))

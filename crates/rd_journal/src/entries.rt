@@ -1,8 +1,8 @@
-//! The entries of a session. An entry stays in the slot where it was put, and a list of the slots'
-//! numbers gives the order. First are the live steps, then the steps ahead of them, the next one in
-//! front, and last the discarded entries. The steps ahead run on from the live ones and can be made
-//! again as they are. They are the undone steps, and after these the steps that the session went
-//! back over.
+//! The entries of a session. They are in a slab: an entry stays where it was put, and is known by
+//! its number there, from 0. A list of these numbers gives the order. First are the live steps,
+//! then the steps ahead of them, the next one in front, and last the discarded entries. The steps
+//! ahead run on from the live ones and can be made again as they are. They are the undone steps,
+//! and after these the steps that the session went back over.
 //!
 //! Undoing the last step, or redoing one, only moves the border between the live steps and those
 //! ahead. Undoing a step in the middle first moves its number behind the other live ones. So an
@@ -17,32 +17,32 @@ ghost use Rattle.rd_depend.specs.Moved.{moved_to};
 ghost use Rattle.rd_journal.specs.Numbers.{only_numbered, IsOrder};
 
 mod gathering;
-mod slots;
+mod slab;
 
 use super::entry_list::{EntryList, entry_at};
 use gathering::move_closure_last;
 use rd_depend::DependIndex;
 use rd_step::Entry;
-use slots::{make_room, move_to, put_at};
+use slab::{make_room, move_to, put_at};
 use std::alloc::{AllocError, Global};
 
 /// The entries of the live steps, in their order, and of the steps ahead of them, the next one in
 /// front.
 #[derive(Drop)]
 pub(crate) struct Entries {
-    /// The slots: each entry where it was put, and discarded entries that are not yet written over.
-    slots: Vec<Entry>,
-    /// The numbers of the slots: first of the live entries, then of those ahead, then of the
+    /// The slab: each entry where it was put, and discarded entries that are not yet written over.
+    slab: Vec<Entry>,
+    /// The numbers of the entries: first of the live ones, then of those ahead, then of the
     /// discarded ones.
     order: Vec<u32>,
-    /// The slot numbers that a rollback gathers; empty at any other time. It has room for the
-    /// number of each slot.
+    /// The numbers that a rollback gathers; empty at any other time. It has room for the numbers of
+    /// all entries.
     gathered: Vec<u32>,
     /// The number of live entries.
     live: usize,
     /// The number of entries ahead of the live ones.
     ahead: usize,
-    ghost order_of_all: { IsOrder (length slots.items) order.items },
+    ghost order_of_all: { IsOrder (length slab.items) order.items },
     ghost within: { live + ahead ≤ length order.items },
     ghost none_gathered: { gathered.items ≡ [] },
     ghost room_to_gather: { length order.items ≤ vec_capacity gathered },
@@ -59,7 +59,7 @@ impl Entries {
         ensures capacity { entries_capacity result ≡ 0 }
     {
         Entries {
-            slots: Vec::new(alloc),
+            slab: Vec::new(alloc),
             order: Vec::new(alloc),
             gathered: Vec::new(alloc),
             live: 0,
@@ -88,7 +88,7 @@ impl Entries {
         requires within { n ≤ self.now.live + self.now.ahead }
         ensures { result ≡ take n (all_entries self.now) }
     {
-        EntryList::new(&self.slots, &self.order[..n])
+        EntryList::new(&self.slab, &self.order[..n])
     }
 
     /// Returns the number of live steps.
@@ -130,13 +130,13 @@ impl Entries {
         self.at(self.live + position)
     }
 
-    /// Returns the entry whose slot's number is at index `position` of the order. The index must be
-    /// below the order's length.
+    /// Returns the entry whose number is at index `position` of the order. The index must be below
+    /// the order's length.
     fn at(&self, position: usize) -> &Entry
         requires { position < length (all_entries self.now) }
         ensures { result.now ≡ get_or (all_entries self.now) position result.now }
     {
-        entry_at(&self.slots, &self.order, position)
+        entry_at(&self.slab, &self.order, position)
     }
 
     /// Moves the border back: the last `n` live entries become the next ones ahead. At least `n`
@@ -210,7 +210,7 @@ impl Entries {
             (without_closure (live_entries self.old) k) ++ ahead_entries self.old) }
     {
         move_closure_last(
-            &self.slots,
+            &self.slab,
             &mut self.order,
             &mut self.gathered,
             index,
@@ -230,7 +230,7 @@ impl Entries {
         ensures same { needed ≤ entries_capacity self.old
             → entries_capacity self.new ≡ entries_capacity self.old }
     {
-        make_room(&mut self.slots, needed)?;
+        make_room(&mut self.slab, needed)?;
         make_room(&mut self.order, needed)?;
         make_room(&mut self.gathered, needed)
     }
@@ -255,7 +255,7 @@ impl Entries {
 
     /// Makes an entry the last live one. No entry may be ahead, fewer than `MOST_STEPS` may be
     /// live, and there must be room for one more. The entry is written over the first discarded
-    /// one, or into a new slot if there is none.
+    /// one, or put at the slab's end if there is none.
     fn push_live(&mut self, entry: &Entry)
         requires none_ahead { ahead_entries self.old ≡ [] }
         requires room { length (live_entries self.old) < entries_capacity self.old }
@@ -264,7 +264,7 @@ impl Entries {
         ensures ahead { ahead_entries self.new ≡ [] }
         ensures capacity { entries_capacity self.new ≡ entries_capacity self.old }
     {
-        put_at(&mut self.slots, &mut self.order, self.live, entry);
+        put_at(&mut self.slab, &mut self.order, self.live, entry);
         self.live += 1;
     }
 }

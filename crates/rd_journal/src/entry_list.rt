@@ -11,12 +11,12 @@ use rd_step::{Entry, Event, EventList};
 use std::marker::Model;
 
 /// A borrowed list of entries, of the live steps or of the steps ahead of them, in their order. It
-/// copies no entry: it reads each one in its slot, by the slot's number.
+/// copies no entry: it reads each one in the slab, by its number.
 #[derive(Drop)]
 pub struct EntryList<'a> {
-    /// The slots of the session's entries.
-    slots: &'a [Entry],
-    /// The numbers of the listed entries' slots, in the order of the list.
+    /// The slab that has the session's entries.
+    slab: &'a [Entry],
+    /// The numbers of the listed entries in the slab, in the order of the list.
     numbers: &'a [u32],
 }
 
@@ -28,19 +28,19 @@ impl<'a> Model for EntryList<'a> {
 
     ghost Value = { List SomeEntry };
 
-    ghost view = { λ r. at_numbers r.slots.now r.numbers.now };
+    ghost view = { λ r. at_numbers r.slab.now r.numbers.now };
 
-    ghost invariant = { λ r. All (λ n. n < length r.slots.now) r.numbers.now };
+    ghost invariant = { λ r. All (λ n. n < length r.slab.now) r.numbers.now };
 }
 
 impl<'a> EntryList<'a> {
-    /// Returns the list of the entries in the slots of these numbers. Each number must be below the
-    /// number of slots.
-    pub(crate) fn new(slots: &'a [Entry], numbers: &'a [u32]) -> EntryList<'a>
-        requires { All (λ n. n < length slots.now) numbers.now }
-        ensures { result ≡ at_numbers slots.now numbers.now }
+    /// Returns the list of the slab's entries of these numbers. Each number must be below the
+    /// slab's length.
+    pub(crate) fn new(slab: &'a [Entry], numbers: &'a [u32]) -> EntryList<'a>
+        requires { All (λ n. n < length slab.now) numbers.now }
+        ensures { result ≡ at_numbers slab.now numbers.now }
     {
-        EntryList { slots, numbers }
+        EntryList { slab, numbers }
     }
 
     /// Returns the number of entries.
@@ -55,7 +55,7 @@ impl<'a> EntryList<'a> {
         requires { position < length self.now }
         ensures { result.now ≡ slice_index_or self.now position result.now }
     {
-        entry_at(self.slots, self.numbers, position)
+        entry_at(self.slab, self.numbers, position)
     }
 
     /// Returns the entry at this position, from 0; `None` if there is none.
@@ -86,7 +86,7 @@ impl<'a> EntryList<'a> {
         requires { n ≤ length self.now }
         ensures { result ≡ drop n self.now }
     {
-        EntryList::new(self.slots, numbers_after(self.numbers, n))
+        EntryList::new(self.slab, numbers_after(self.numbers, n))
     }
 }
 
@@ -106,14 +106,14 @@ impl EventList for EntryList<'_> {
     }
 }
 
-/// Returns the entry whose slot's number is at this position, from 0, among the numbers. The
-/// position must be below their count, and each number below the number of slots.
-pub(crate) fn entry_at<'a>(slots: &'a [Entry], numbers: &[u32], position: usize) -> &'a Entry
+/// Returns the entry whose number is at this position, from 0, among the numbers. The position must
+/// be below their count, and each number below the slab's length.
+pub(crate) fn entry_at<'a>(slab: &'a [Entry], numbers: &[u32], position: usize) -> &'a Entry
     requires within { position < length numbers.now }
-    requires below { All (λ n. n < length slots.now) numbers.now }
-    ensures { result.now ≡ slice_index_or (at_numbers slots.now numbers.now) position result.now }
+    requires below { All (λ n. n < length slab.now) numbers.now }
+    ensures { result.now ≡ slice_index_or (at_numbers slab.now numbers.now) position result.now }
 {
-    &slots[numbers[position] as usize]
+    &slab[numbers[position] as usize]
 }
 
 /// Returns the numbers after the first `n`. There must be at least `n`.

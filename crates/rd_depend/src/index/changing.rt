@@ -60,9 +60,9 @@ impl EntryKeys {
     }
 }
 
-/// The indices of an entry's keys in the table, each none where there is no key.
+/// The rows of an entry's keys in the table, each none where there is no key.
 #[derive(Clone, Copy)]
-struct Slots {
+struct KeyRows {
     place: Option<usize>,
     value: Option<usize>,
     segment: Option<usize>,
@@ -89,8 +89,8 @@ impl DependIndex {
         ensures room_stays { OnErr result (KeepsRoom self.old self.new) }
     {
         let homes = EntryKeys::of(entry);
-        let slots = self.reserve(entry, &homes)?;
-        self.put(entry, &homes, slots);
+        let rows = self.reserve(entry, &homes)?;
+        self.put(entry, &homes, rows);
         Ok(())
     }
 
@@ -223,10 +223,10 @@ impl DependIndex {
     }
 
     /// Makes room for one more position in each list that is to keep the entry, and returns the
-    /// indices of its keys, which are added if they are missing. `homes` must be the entry's keys.
+    /// rows of its keys, which are added if they are missing. `homes` must be the entry's keys.
     /// Fails only if memory is refused, which is asked for only if room is missing; no position has
     /// changed then, and no room is lost.
-    fn reserve(&mut self, entry: &Entry, homes: &EntryKeys) -> Result<Slots, AllocError>
+    fn reserve(&mut self, entry: &Entry, homes: &EntryKeys) -> Result<KeyRows, AllocError>
         requires { homes.now ≡ entry_keys entry.now }
         ensures same { KeepsPositions self.old self.new }
         ensures ready { IfOk result (IsReadyFor self.new entry.now homes.now) }
@@ -245,7 +245,7 @@ impl DependIndex {
         let segment = self
             .by_key
             .reserve(self.alloc, homes.segment.key, homes.segment.wrote)?;
-        Ok(Slots {
+        Ok(KeyRows {
             place,
             value,
             segment,
@@ -253,21 +253,20 @@ impl DependIndex {
     }
 
     /// Puts the entry at the next position, for which there must be room. There must be fewer than
-    /// `MOST_STEPS` positions. `homes` must be the entry's keys, and `slots` their indices.
-    fn put(&mut self, entry: &Entry, homes: &EntryKeys, slots: Slots)
+    /// `MOST_STEPS` positions. `homes` must be the entry's keys, and `rows` the rows of these.
+    fn put(&mut self, entry: &Entry, homes: &EntryKeys, rows: KeyRows)
         requires few { position_count self.old < MOST_STEPS }
         requires homes { homes.now ≡ entry_keys entry.now }
-        requires ready { IsReadyFor self.old entry.now homes.now slots }
+        requires ready { IsReadyFor self.old entry.now homes.now rows }
         ensures { Adds entry.now self.old self.new }
     {
         self.len += 1;
         let position = self.len as u32;
         let actor = usize::from(entry.event.actor);
         push_at(&mut self.by_actor, actor, position);
-        self.by_key.put(slots.place, position, homes.place.wrote);
-        self.by_key.put(slots.value, position, homes.value.wrote);
-        self.by_key
-            .put(slots.segment, position, homes.segment.wrote);
+        self.by_key.put(rows.place, position, homes.place.wrote);
+        self.by_key.put(rows.value, position, homes.value.wrote);
+        self.by_key.put(rows.segment, position, homes.segment.wrote);
     }
 
     /// Pushes these entries in their order until one is refused memory, and returns the number that

@@ -15,7 +15,7 @@ use super::lists::{
 use indexmap::IndexSet;
 use std::alloc::{AllocError, Global};
 
-/// The number of hints. A hint may know the index of a key.
+/// The number of hints. A hint may know the row of a key.
 const HINTS: usize = 512;
 
 /// Which of the positions kept under a key are meant.
@@ -42,13 +42,13 @@ impl Among {
     }
 }
 
-/// Keys with their lists, each at the index of its key. A key stays when its lists become empty.
+/// Keys with their lists, in one row for each key. A key stays when its lists become empty.
 #[derive(Drop)]
 pub(crate) struct Table {
-    /// The keys, in the order of their indices.
+    /// The keys, in the order of their rows.
     keys: IndexSet<Key>,
-    /// The indices at which keys were found lately. A hint is tried before the set is searched, and
-    /// believed only if the key is at that index.
+    /// The rows in which keys were found lately. A hint is tried before the set is searched, and
+    /// believed only if the key is in that row.
     hints: [usize; HINTS],
     /// For each key, the positions of all its steps.
     all: Vec<Vec<u32>>,
@@ -60,7 +60,7 @@ pub(crate) struct Table {
 
 impl Table {
     ghost use Rattle.std.specs.Prelude.{◌≤◌, Option, Some, Bool, true, IsOk, IfOk, IfSome, false, []};
-    ghost use Rattle.rd_depend.specs.Keys.{slot_in};
+    ghost use Rattle.rd_depend.specs.Keys.{row_in};
     ghost use Rattle.rd_depend.specs.Tables.{is_writes, kept_in, spare_in, is_kept_in, IsReady, IsReadyIfSome, KeepsLists, Puts, HasLast, RemovesLast, Moves, Cuts};
     ghost use Rattle.rd_depend.specs.declared.index.keys.Key.{Key as Kept};
 
@@ -76,9 +76,9 @@ impl Table {
         }
     }
 
-    /// Returns the index of the key; `None` if it isn't in the table.
-    pub(crate) fn key_index(&self, key: Key) -> Option<usize>
-        ensures slot { result ≡ slot_in self.now.keys.keys key }
+    /// Returns the row of the key; `None` if it isn't in the table.
+    pub(crate) fn row_of(&self, key: Key) -> Option<usize>
+        ensures row { result ≡ row_in self.now.keys.keys key }
         ensures within { IfSome result (λ i. i < length self.now.keys.keys) }
     {
         let hinted = self.hints[hint_of(key)];
@@ -88,16 +88,16 @@ impl Table {
         self.keys.get_index_of(&key)
     }
 
-    /// Whether this key is at this index; false for an index that no key has.
+    /// Whether this key is in this row; false for a row that no key has.
     #[inline(always)]
-    fn has_key_at(&self, slot: usize, key: Key) -> bool
-        ensures { result ≡ true → slot_in self.now.keys.keys key ≡ Some slot }
+    fn has_key_at(&self, row: usize, key: Key) -> bool
+        ensures { result ≡ true → row_in self.now.keys.keys key ≡ Some row }
     {
         let keys = self.keys.as_slice();
-        if slot >= keys.len() {
+        if row >= keys.len() {
             return false;
         }
-        keys[slot] == key
+        keys[row] == key
     }
 
     /// Returns the positions kept under the key: all of them, or only those of steps that wrote.
@@ -105,17 +105,17 @@ impl Table {
     pub(crate) fn kept_under(&self, key: Key, among: Among) -> &[u32]
         ensures { result.now ≡ kept_in self.now (is_writes among) key }
     {
-        let Some(slot) = self.key_index(key) else {
+        let Some(row) = self.row_of(key) else {
             return &[];
         };
         match among {
-            Among::Touches => &self.all[slot],
-            Among::Writes => &self.writes[slot],
+            Among::Touches => &self.all[row],
+            Among::Writes => &self.writes[row],
         }
     }
 
     /// Makes room for one more position under the key, also among those that wrote if the step
-    /// wrote, and returns the key's index. Adds the key if it isn't in the table. Without a key it
+    /// wrote, and returns the key's row. Adds the key if it isn't in the table. Without a key it
     /// does nothing and returns `None`.
     ///
     /// # Errors
@@ -142,7 +142,7 @@ impl Table {
     }
 
     /// Makes room for one more position in the key's list, and in its list of writes if the step
-    /// wrote, and returns the key's index. Adds the key if it isn't in the table.
+    /// wrote, and returns the key's row. Adds the key if it isn't in the table.
     ///
     /// # Errors
     ///
@@ -155,19 +155,19 @@ impl Table {
         ensures succeeds { ((only_writes : Bool) → is_kept_in only_writes wrote ≡ true
             → 0 < spare_in self.old only_writes key) → IsOk result }
     {
-        let slot = self.find_or_add(alloc, key)?;
-        reserve_at(&mut self.all, slot)?;
-        reserve_if(&mut self.writes, wrote, slot)?;
-        Ok(slot)
+        let row = self.find_or_add(alloc, key)?;
+        reserve_at(&mut self.all, row)?;
+        reserve_if(&mut self.writes, wrote, row)?;
+        Ok(row)
     }
 
-    /// Returns the index of the key, which is added with empty lists if it isn't in the table. The
-    /// key's hint has this index then. Fails only if memory for a new key is refused; no position
-    /// has changed then, and no room is lost.
+    /// Returns the row of the key, which is added with empty lists if it isn't in the table. The
+    /// key's hint has this row then. Fails only if memory for a new key is refused; no position has
+    /// changed then, and no room is lost.
     #[inline(always)]
     fn find_or_add(&mut self, alloc: Global, key: Key) -> Result<usize, AllocError>
         ensures same { KeepsLists self.old self.new }
-        ensures slot { IfOk result (λ i. slot_in self.new.keys.keys key ≡ Some i) }
+        ensures row { IfOk result (λ i. row_in self.new.keys.keys key ≡ Some i) }
         ensures within { IfOk result (λ i. i < length self.new.keys.keys) }
         ensures succeeds { 0 < spare_in self.old false key → IsOk result }
     {
@@ -176,55 +176,55 @@ impl Table {
         if self.has_key_at(hinted, key) {
             return Ok(hinted);
         }
-        let slot = self.search_or_add(alloc, key)?;
-        self.hints[hint] = slot;
-        Ok(slot)
+        let row = self.search_or_add(alloc, key)?;
+        self.hints[hint] = row;
+        Ok(row)
     }
 
-    /// Returns the index of the key, which is added with empty lists if it isn't in the table. No
+    /// Returns the row of the key, which is added with empty lists if it isn't in the table. No
     /// hint is changed. Fails only if memory for a new key is refused; no position has changed
     /// then, and no room is lost.
     #[inline(never)]
     fn search_or_add(&mut self, alloc: Global, key: Key) -> Result<usize, AllocError>
         ensures same { KeepsLists self.old self.new }
-        ensures slot { IfOk result (λ i. slot_in self.new.keys.keys key ≡ Some i) }
+        ensures row { IfOk result (λ i. row_in self.new.keys.keys key ≡ Some i) }
         ensures within { IfOk result (λ i. i < length self.new.keys.keys) }
         ensures succeeds { 0 < spare_in self.old false key → IsOk result }
     {
-        if let Some(slot) = self.key_index(key) {
-            return Ok(slot);
+        if let Some(row) = self.row_of(key) {
+            return Ok(row);
         }
         self.all.reserve(1)?;
         self.writes.reserve(1)?;
-        let slot = self.keys.len();
+        let row = self.keys.len();
         self.keys.insert(key)?;
         self.all.push_reserved(Vec::new(alloc));
         self.writes.push_reserved(Vec::new(alloc));
-        Ok(slot)
+        Ok(row)
     }
 
-    /// Puts a position at the end of the list at this index, and of the list of writes there if the
-    /// step wrote. A key must have this index, and these lists must have room for the position.
-    /// Without an index it does nothing.
-    pub(crate) fn put(&mut self, slot: Option<usize>, position: u32, wrote: bool)
-        requires { (k : Option Kept) × IsReadyIfSome self.old k wrote slot }
-        ensures { (k : Option Kept) → IsReadyIfSome self.old k wrote slot
+    /// Puts a position at the end of the list in this row, and of the list of writes there if the
+    /// step wrote. A key must have this row, and these lists must have room for the position.
+    /// Without a row it does nothing.
+    pub(crate) fn put(&mut self, row: Option<usize>, position: u32, wrote: bool)
+        requires { (k : Option Kept) × IsReadyIfSome self.old k wrote row }
+        ensures { (k : Option Kept) → IsReadyIfSome self.old k wrote row
             → Puts k wrote position self.old self.new }
     {
-        if let Some(slot) = slot {
-            self.put_at(slot, position, wrote);
+        if let Some(row) = row {
+            self.put_at(row, position, wrote);
         }
     }
 
-    /// Puts a position at the end of the list at this index, and of the list of writes there if the
-    /// step wrote. A key must have this index, and these lists must have room for the position.
-    fn put_at(&mut self, slot: usize, position: u32, wrote: bool)
-        requires { (k : Kept) × IsReady self.old k wrote slot }
-        ensures { (k : Kept) → IsReady self.old k wrote slot
+    /// Puts a position at the end of the list in this row, and of the list of writes there if the
+    /// step wrote. A key must have this row, and these lists must have room for the position.
+    fn put_at(&mut self, row: usize, position: u32, wrote: bool)
+        requires { (k : Kept) × IsReady self.old k wrote row }
+        ensures { (k : Kept) → IsReady self.old k wrote row
             → Puts (Some k) wrote position self.old self.new }
     {
-        push_at(&mut self.all, slot, position);
-        push_if(&mut self.writes, wrote, slot, position);
+        push_at(&mut self.all, row, position);
+        push_if(&mut self.writes, wrote, row, position);
     }
 
     /// Removes the last position from the key's list, and from its list of writes if the step
@@ -244,9 +244,9 @@ impl Table {
         requires { HasLast self.old (Some key) wrote }
         ensures { RemovesLast (Some key) wrote self.old self.new }
     {
-        if let Some(slot) = self.key_index(key) {
-            remove_last_at(&mut self.all, slot);
-            remove_last_if(&mut self.writes, wrote, slot);
+        if let Some(row) = self.row_of(key) {
+            remove_last_at(&mut self.all, row);
+            remove_last_if(&mut self.writes, wrote, row);
         }
     }
 
@@ -272,7 +272,7 @@ impl Table {
     }
 }
 
-/// Returns the number of the hint that may know the index of this key, from 0 and below `HINTS`.
+/// Returns the number of the hint that may know the row of this key, from 0 and below `HINTS`.
 /// Keys can share a hint.
 #[inline(always)]
 fn hint_of(key: Key) -> usize

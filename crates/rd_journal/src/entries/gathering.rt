@@ -13,25 +13,25 @@ ghost use Rattle.rd_journal.specs.Numbers.{at_numbers, IsOrder};
 use rd_depend::DependIndex;
 use rd_step::Entry;
 
-/// Among the first `live` slot numbers, moves the `k`-th, counted from 1, and those whose entries
-/// depend on its entry, directly or through others, behind the rest. Both parts keep their order.
-/// Returns how long the second part is.
+/// Among the first `live` numbers, moves the `k`-th, counted from 1, and those whose entries depend
+/// on its entry, directly or through others, behind the rest. Both parts keep their order. Returns
+/// how long the second part is.
 ///
-/// The order must have each slot's number once, and no other; afterwards this holds again. `k` must
-/// be at least 1 and at most `live`, and `live` at most `MOST_STEPS` and the length of the order.
-/// `gathered` must be empty, with room for as many numbers as the order has, and is empty again
-/// afterwards. The index must be that of the entries before the `k`-th, with room for the other
-/// live ones; afterwards it is that of the entries before the `k`-th, followed by the second part,
-/// and keeps its room for all others.
+/// The order must have each entry's number once, and no other; afterwards this holds again. `k`
+/// must be at least 1 and at most `live`, and `live` at most `MOST_STEPS` and the length of the
+/// order. `gathered` must be empty, with room for as many numbers as the order has, and is empty
+/// again afterwards. The index must be that of the entries before the `k`-th, with room for the
+/// other live ones; afterwards it is that of the entries before the `k`-th, followed by the second
+/// part, and keeps its room for all others.
 pub(crate) fn move_closure_last(
-    slots: &[Entry],
+    slab: &[Entry],
     order: &mut Vec<u32>,
     gathered: &mut Vec<u32>,
     index: &mut DependIndex,
     k: usize,
     live: usize,
 ) -> usize
-    requires ordered { IsOrder (length slots.now) order.old.items }
+    requires ordered { IsOrder (length slab.now) order.old.items }
     requires some { 1 ≤ k }
     requires position { k ≤ live }
     requires within { live ≤ length order.old.items }
@@ -39,37 +39,37 @@ pub(crate) fn move_closure_last(
     requires none { gathered.old.items ≡ [] }
     requires place { length order.old.items ≤ vec_capacity gathered.old }
     requires before { IsIndexOf index.old (take (k - 1)
-        (take live (at_numbers slots.now order.old.items))) }
+        (take live (at_numbers slab.now order.old.items))) }
     requires room { HasRoomFor index.old (drop (k - 1)
-        (take live (at_numbers slots.now order.old.items))) }
-    ensures ordered { IsOrder (length slots.now) order.new.items }
+        (take live (at_numbers slab.now order.old.items))) }
+    ensures ordered { IsOrder (length slab.now) order.new.items }
     ensures count { result ≡ length (closure_entries
-        (take live (at_numbers slots.now order.old.items)) k) }
-    ensures moved { take live (at_numbers slots.now order.new.items)
-        ≡ without_closure (take live (at_numbers slots.now order.old.items)) k
-        ++ closure_entries (take live (at_numbers slots.now order.old.items)) k }
-    ensures behind { drop live (at_numbers slots.now order.new.items)
-        ≡ drop live (at_numbers slots.now order.old.items) }
+        (take live (at_numbers slab.now order.old.items)) k) }
+    ensures moved { take live (at_numbers slab.now order.new.items)
+        ≡ without_closure (take live (at_numbers slab.now order.old.items)) k
+        ++ closure_entries (take live (at_numbers slab.now order.old.items)) k }
+    ensures behind { drop live (at_numbers slab.now order.new.items)
+        ≡ drop live (at_numbers slab.now order.old.items) }
     ensures order { vec_capacity order.new ≡ vec_capacity order.old }
     ensures none { gathered.new.items ≡ [] }
     ensures place { vec_capacity gathered.new ≡ vec_capacity gathered.old }
     ensures index { IsIndexOf index.new (take (k - 1)
-        (take live (at_numbers slots.now order.old.items))
-        ++ closure_entries (take live (at_numbers slots.now order.old.items)) k) }
+        (take live (at_numbers slab.now order.old.items))
+        ++ closure_entries (take live (at_numbers slab.now order.old.items)) k) }
     ensures room { (rest : List SomeEntry)
-        → HasRoomFor index.old (drop (k - 1) (take live (at_numbers slots.now order.old.items))
+        → HasRoomFor index.old (drop (k - 1) (take live (at_numbers slab.now order.old.items))
         ++ rest)
         → HasRoomFor index.new (drop (k - 1)
-        (without_closure (take live (at_numbers slots.now order.old.items)) k) ++ rest) }
+        (without_closure (take live (at_numbers slab.now order.old.items)) k) ++ rest) }
 {
     let mut front = k - 1;
     let first = order[front];
-    let step = entry_in(slots, first);
+    let step = entry_in(slab, first);
     index.push_reserved(step);
     gathered.push_reserved(first);
     for next in k..live {
         let number = order[next];
-        let entry = entry_in(slots, number);
+        let entry = entry_in(slab, number);
         if index.depends_on_any_after(k as u64 - 1, entry) {
             index.push_reserved(entry);
             gathered.push_reserved(number);
@@ -83,10 +83,10 @@ pub(crate) fn move_closure_last(
     live - front
 }
 
-/// Returns the entry in the slot of this number. There must be such a slot.
-fn entry_in(slots: &[Entry], number: u32) -> &Entry
-    requires { number < length slots.now }
-    ensures { result.now ≡ slice_index_or slots.now number result.now }
+/// Returns the slab's entry of this number. There must be such an entry.
+fn entry_in(slab: &[Entry], number: u32) -> &Entry
+    requires { number < length slab.now }
+    ensures { result.now ≡ slice_index_or slab.now number result.now }
 {
-    &slots[number as usize]
+    &slab[number as usize]
 }

@@ -3,8 +3,8 @@ use Rattle.rd_depend.proofs.IndexChanges.{added, then_adds}
 use Rattle.rd_depend.proofs.IndexRoom.{room_for_first}
 use Rattle.rd_depend.proofs.index.DependIndex.push.Goals as goal
 
-pub returns-in_err-slots-clause-succeeds : goal.returns-in_err-slots-clause-succeeds
-returns-in_err-slots-clause-succeeds c = λ rest has. absurd (false≢true (c.in_err-slots.ensures.succeeds (room_for_first c.args.self.now c.args.entry.now rest has)))
+pub returns-in_err-rows-clause-succeeds : goal.returns-in_err-rows-clause-succeeds
+returns-in_err-rows-clause-succeeds c = λ rest has. absurd (false≢true (c.in_err-rows.ensures.succeeds (room_for_first c.args.self.now c.args.entry.now rest has)))
 
 pub returns-clause-ok : goal.returns-clause-ok
 returns-clause-ok c = λ es is.

@@ -19,7 +19,7 @@ entry_in-step-requires c = grind (arith, order_below)
 
 pub push_reserved-requires-clause-room : goal.push_reserved-requires-clause-room
 push_reserved-requires-clause-room c =
-    let es = c.args.slots.now in
+    let es = c.args.slab.now in
     let ns = c.args.order.now.items in
     let n = next_one es ns ns c.args.live (c.args.k - 1) c.index-first.result.now c.requires.ordered c.requires.within (omega (arith, c.requires.some, c.requires.position)) refl refl
     c.index-first.ensures in
@@ -27,7 +27,7 @@ push_reserved-requires-clause-room c =
 
 pub loop-next-init : goal.loop-next-init
 loop-next-init c =
-    let es = c.args.slots.now in
+    let es = c.args.slab.now in
     let ns = c.args.order.now.items in
     let v = c.index-first.result.now in
     let n = next_one es ns ns c.args.live (c.args.k - 1) v c.requires.ordered c.requires.within (omega (arith, c.requires.some, c.requires.position)) refl refl
@@ -50,7 +50,7 @@ depends_on_any_after-requires c = grind (arith, live_of, live_of-length, length-
 
 pub push_reserved-requires-then-depends_on_any_after-clause-room : goal.push_reserved-requires-then-depends_on_any_after-clause-room
 push_reserved-requires-then-depends_on_any_after-clause-room c =
-    let es = c.args.slots.now in
+    let es = c.args.slab.now in
     let ns = c.args.order.now.items in
     let now = c.loop-next.order.items in
     let k = c.args.k in
@@ -67,7 +67,7 @@ push_reserved-requires-then-depends_on_any_after-clause-room c =
 
 pub loop-next-preserved : goal.loop-next-preserved
 loop-next-preserved c =
-    let es = c.args.slots.now in
+    let es = c.args.slab.now in
     let ns = c.args.order.now.items in
     let now = c.loop-next.order.items in
     let gathered = c.loop-next.gathered.items in
@@ -116,6 +116,6 @@ returns c =
     let put = written c.loop-next.order.len c.loop-next.front c.args.live c.loop-next.order.items c.deref_mut.result.now c.copy_from_slice.new.self c.loop-next.gathered.items (search rules)
     c.deref_mut.ensures.value (c.copy_from_slice.ensures.after ∙ c.deref.ensures.value) (omega (arith, u.number, u.within, c.loop-next-test.false))
     (omega (arith, u.long, c.requires.within)) in
-    let e = ended c.args.slots.now c.args.order.now.items c.loop-next.order.items c.loop-next.gathered.items _ c.args.index.now c.loop-next.index c.args.k c.args.live c.loop-next.front
+    let e = ended c.args.slab.now c.args.order.now.items c.loop-next.order.items c.loop-next.gathered.items _ c.args.index.now c.loop-next.index c.args.k c.args.live c.loop-next.front
     c.loop-next.next u (omega (arith, c.loop-next-test.false)) c.requires.ordered c.requires.within put in
     grind arith

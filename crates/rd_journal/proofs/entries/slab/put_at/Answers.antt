@@ -1,7 +1,7 @@
 use Rattle.rd_journal.proofs.Prelude.{drop_all, drop_at, take_all}
 use Rattle.std.proofs.Common.{arith, length-append}
 use Rattle.rd_journal.proofs.Numbers.{order_below, order_push, put_over, at-append, at-length, at-push}
-use Rattle.rd_journal.proofs.entries.slots.put_at.Goals as goal
+use Rattle.rd_journal.proofs.entries.slab.put_at.Goals as goal
 
 pub index_mut-requires : goal.index_mut-requires
 index_mut-requires c = grind (arith, order_below)

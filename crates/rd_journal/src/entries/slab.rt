@@ -1,4 +1,4 @@
-//! Changes of the slots, and of the order of their numbers.
+//! Changes of the slab, and of the order of its entries' numbers.
 
 ghost use Rattle.std.specs.Prelude.{◌≡◌, ◌++◌, ◌∷◌, ◌+◌, ◌<◌, ◌≤◌, ℕ, length, take, drop, vec_capacity, OnOk, OnErr};
 ghost use Rattle.rd_step.specs.Prelude.{MOST_STEPS};
@@ -8,31 +8,31 @@ ghost use Rattle.rd_journal.specs.Numbers.{at_numbers, IsOrder};
 use rd_step::Entry;
 use std::alloc::AllocError;
 
-/// Puts an entry at index `position` of the order: into the slot whose number is there, or at the
-/// end of the order into a new slot. All other entries stay. The order must have each slot's number
-/// once, and no other; afterwards this holds again. The index must be below `MOST_STEPS`, at most
-/// the order's length, and below the capacity of both lists.
-pub(crate) fn put_at(slots: &mut Vec<Entry>, order: &mut Vec<u32>, position: usize, entry: &Entry)
-    requires ordered { IsOrder (length slots.old.items) order.old.items }
+/// Puts an entry at index `position` of the order: over the entry whose number is there, or, at the
+/// end of the order, at the slab's end. All other entries stay. The order must have each entry's
+/// number once, and no other; afterwards this holds again. The index must be below `MOST_STEPS`, at
+/// most the order's length, and below the capacity of both lists.
+pub(crate) fn put_at(slab: &mut Vec<Entry>, order: &mut Vec<u32>, position: usize, entry: &Entry)
+    requires ordered { IsOrder (length slab.old.items) order.old.items }
     requires within { position ≤ length order.old.items }
     requires few { position < MOST_STEPS }
-    requires slot { position < vec_capacity slots.old }
+    requires slab { position < vec_capacity slab.old }
     requires number { position < vec_capacity order.old }
-    ensures ordered { IsOrder (length slots.new.items) order.new.items }
-    ensures put { at_numbers slots.new.items order.new.items
-        ≡ take position (at_numbers slots.old.items order.old.items)
-        ++ entry.now ∷ drop (position + 1) (at_numbers slots.old.items order.old.items) }
+    ensures ordered { IsOrder (length slab.new.items) order.new.items }
+    ensures put { at_numbers slab.new.items order.new.items
+        ≡ take position (at_numbers slab.old.items order.old.items)
+        ++ entry.now ∷ drop (position + 1) (at_numbers slab.old.items order.old.items) }
     ensures within { position < length order.new.items }
     ensures longer { (n : ℕ) → position < n → length order.old.items ≤ n
         → length order.new.items ≤ n }
-    ensures slots { vec_capacity slots.new ≡ vec_capacity slots.old }
+    ensures slab { vec_capacity slab.new ≡ vec_capacity slab.old }
     ensures numbers { vec_capacity order.new ≡ vec_capacity order.old }
 {
     if position < order.len() {
-        slots[order[position] as usize] = *entry;
+        slab[order[position] as usize] = *entry;
     } else {
-        order.push_reserved(slots.len() as u32);
-        slots.push_reserved(*entry);
+        order.push_reserved(slab.len() as u32);
+        slab.push_reserved(*entry);
     }
 }
 

@@ -1,6 +1,6 @@
 use Rattle.rd_journal.proofs.Prelude.{◌≡◌, ℕ, ◌-◌, ◌≤◌, List, ◌++◌, length, take, drop, arith, put_mid, mid_of, moved_to, append-nil, drop_of_length-le, take_all, length-append, length-drop, length-take-le}
 use Rattle.rd_journal.proofs.ListLemmas.{rotated-moved_to}
-use Rattle.rd_journal.proofs.entries.slots.move_to.Goals as goal
+use Rattle.rd_journal.proofs.entries.slab.move_to.Goals as goal
 
 -- what the vector holds after its part was turned by one
 whole : (n k l : ℕ) (es ds turned_by_one : List ℕ) → n ≡ length es → ds ≡ es → 1 ≤ k → k ≤ l → l ≤ length es
