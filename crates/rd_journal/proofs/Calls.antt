@@ -12,9 +12,6 @@ use Rattle.rd_cell.specs.declared.refusal.Refusal.TheVariants as refusal
 pub live_len : (j : Journal) → length (state_of j).live ≡ length j.live
 live_len j = length-map j.live (λ x. x.event)
 
-pub undone_len : (j : Journal) → length (state_of j).undone ≡ length j.undone
-undone_len j = length-map j.undone (λ x. x.event)
-
 -- The start
 
 -- the world that a session was opened with is the one that was kept

@@ -1,5 +1,5 @@
 -- The value in a cell or slot: only a put gives it another one.
-use Rattle.rd_origin.proofs.Prelude.{◌≡◌, ◌⊎◌, ℕ, Bool, true, false, inl, inr, refl, subst, Option, Some, None, IfSome, Result, Ok, Err, IfOk, arith, SegName, Place, Content, Access, Refusal, Contents, is_of_segment, operand, Performed, perform, Cas2, Swap, share, after_write, segment_holding, performed_at, operate, result_map, cases_Bool, Operation, covers, Effect, effect, contents_after, is_cell_place, after_write-outside, holds_after_effect, operand-covered}
+use Rattle.rd_origin.proofs.Prelude.{◌≡◌, ◌⊎◌, ℕ, Bool, true, false, inl, inr, refl, subst, Option, Some, None, IfSome, Result, Ok, Err, IfOk, arith, Place, Content, Access, Refusal, Contents, operand, Performed, perform, Cas2, Swap, share, performed_at, operate, result_map, cases_Bool, Operation, covers, Effect, effect, contents_after, is_cell_place, after_write-outside, holds_after_effect, operand-covered}
 use Rattle.rd_cell.specs.declared.access.Access.TheVariants.{NoPlace, At, Make}
 use Rattle.rd_cell.proofs.EffectLemmas.{not_written}
 use Rattle.rd_cell.specs.declared.places.Place.TheVariants as place
@@ -100,11 +100,6 @@ kept_operate : (v : ℕ) (p : Place) (op : Operation) (o : Option Content) (at :
 kept_operate v p op o at (place.Cell t j) found k h = kept_there v p op o at (place.Val t j) found refl k h
 kept_operate v p op o at (place.ArrCell i) found k h = kept_there v p op o at (place.ArrCell i) found refl k h
 kept_operate v p op o at _ found k h = always_none v (operate p op o)
-
--- what a making leaves at a cell or a slot is what the new segment has, or what was there
-pub made_leaves : (v R x : ℕ) (s : SegName) (at : Contents) (q : Place) → (is_of_segment s q ≡ true → HoldsOnly v (segment_holding R x) q) → HoldsOnly v at q
-    → HoldsOnly v (after_write (place.Whole s) (segment_holding R x) at) q
-made_leaves v R x s at q inside h = grind arith
 
 -- the access writes no value, or only the one that it found
 abbrev pub AccessKeeps : Access → Type 0

@@ -87,7 +87,6 @@ ran_through w (f ∷ fs) e later q h =
 -- it, and e may go first, with the other events after it
 pub record StandsIn (w : World) (e : Event) (earlier later : List Event) (q : Ran) : Type 0 where
   pub x : Entry
-  pub of_event : x.event ≡ e
   pub before : List Entry
   pub behind : List Entry
   pub entries : q.entries ≡ before ++ x ∷ behind
