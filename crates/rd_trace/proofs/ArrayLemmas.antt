@@ -1,6 +1,6 @@
 -- The array as a JSON value: the slots that are read have ascending positions, and the value that
 -- is written spells the array.
-use Rattle.rd_trace.proofs.Prelude.{◌≡◌, ℕ, zero, suc, ◌+◌, ◌<◌, ◌≤◌, List, [], ◌∷◌, ◌++◌, length, set, replicate, take, get_or, Some, None, refl, sym, ap, ap₂, ◌∙◌, subst, arith, append-nil, length-take, length-set, take_more, take_all, Data, view, items_view, SLOTS, ArrSlot, ArrayParts, Gives, SpellEach, items_by, slot_of_items, slot_of, filled_slots, slot_data, SpellsArray, array_data, Value}
+use Rattle.rd_trace.proofs.Prelude.{◌≡◌, ℕ, zero, suc, ◌+◌, ◌<◌, ◌≤◌, List, [], ◌∷◌, ◌++◌, length, set, take, get_or, Some, None, refl, sym, ap, ap₂, ◌∙◌, subst, arith, append-nil, length-take, length-set, take_more, Data, view, items_view, SLOTS, ArrSlot, ArrayParts, Gives, SpellEach, items_by, slot_of_items, slot_of, filled_slots, slot_data, SpellsArray, array_data, Value}
 use Rattle.rd_trace.proofs.SpellLemmas.{one_given, same_each, spelled_at, spell_each-more, spell_each-none, items_written}
 use Rattle.rd_cell.specs.declared.contents.ArrSlot.TheVariants as slot
 
@@ -89,9 +89,6 @@ pub record AreReadTo (vs : List Value) (i : ℕ) (slots : List ArrSlot) (free : 
   pub next : free ≡ next_position 0 (filled_slots 0 slots)
   pub empty : AreEmptyFrom free slots
 
-pub none_read : (vs : List Value) → AreReadTo vs 0 (replicate SLOTS slot.Empty) 0
-none_read vs = grind arith
-
 module _ (vs : List Value) (i : ℕ) (slots : List ArrSlot) (free : ℕ) (h : AreReadTo vs i slots free) (v : Value) (within : i < length vs) (is : v ≡ get_or vs i v) where
   pub one_more_slot : (p : ℕ × ArrSlot) (next : ℕ) → Some p ≡ slot_of (view v) → free ≤ p.0 → p.0 < SLOTS → next ≡ suc p.0 → AreReadTo vs (i + 1) (set slots p.0 p.1) next
   one_more_slot p next read behind_all below is_next = grind (arith, set, filled_set, empty_later, slot_filled, spell_each-more, length-set, next_position-append, empty_after_set)
@@ -109,9 +106,6 @@ module _ (vs : List Value) (i : ℕ) (slots : List ArrSlot) (free : ℕ) (h : Ar
 
   pub no_slot_here : None ≡ slot_of (view v) → (ss : List ArrSlot) → SpellEach (Gives slot_of) (items_view vs) (filled_slots 0 ss) → ⊥
   no_slot_here read ss = spell_each-none (Gives slot_of) vs i v within is (λ p k. let no : Some p ≡ None = sym k ∙ sym read in cc) (filled_slots 0 ss)
-
-pub all_read : (vs : List Value) (i : ℕ) (slots : List ArrSlot) (free : ℕ) → AreReadTo vs i slots free → length vs ≤ i → SpellEach (Gives slot_of) (items_view vs) (filled_slots 0 slots)
-all_read vs i slots free h past = subst (λ ws. SpellEach (Gives slot_of) (items_view ws) (filled_slots 0 slots)) (take_all i vs past) h.spelled
 
 -- ---- writing
 
