@@ -84,9 +84,10 @@ impl<const R: usize> Desk<R> {
     }
 
     /// Lets the book do the command, records the call, puts the book back into the lock, and
-    /// returns the call's number and the book's answer. The pass must be one of this desk and hold the lock, and `kept`
-    /// must be what it took from there, unchanged. Fails with `HistoryFull` or `NotRecorded` if the
-    /// call can't be recorded; the book doesn't do the command then, and is put back too.
+    /// returns the call's number and the book's answer. The pass must be one of this desk and hold
+    /// the lock, and `kept` must be what it took from there, unchanged. Fails with `HistoryFull` or
+    /// `NotRecorded` if the call can't be recorded; the book doesn't do the command then, and is put
+    /// back too.
     fn obey_and_put_back(
         &self,
         pass: &mut DeskPass<R>,
@@ -113,18 +114,13 @@ fn with_number(number: u64, answer: Answer) -> NumberedAnswer
     ensures answer { without_number result ≡ answer }
     ensures number { IfOk result (λ call. call.0 ≡ number) }
 {
-    match answer {
-        Ok(answer) => Ok((number, answer)),
-        Err(refusal) => Err(refusal),
-    }
+    Ok((number, answer?))
 }
 
 /// Returns the answer to a call without the call's number.
 fn without_number(numbered: NumberedAnswer) -> Answer
     ensures { result ≡ without_number numbered }
 {
-    match numbered {
-        Ok((_, answer)) => Ok(answer),
-        Err(refusal) => Err(refusal),
-    }
+    let (_, answer) = numbered?;
+    Ok(answer)
 }

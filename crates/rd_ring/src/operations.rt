@@ -36,14 +36,14 @@ impl<const R: usize> Segment<R> {
             return Ok(Done::of_operation(place, found, answer, Wrote::Nothing));
         }
         match (place, operation) {
-            (Place::Head(_), Operation::Add) => match self.add_head() {
-                Err(refusal) => Err(refusal),
-                Ok(_) => Ok(Done::of_operation(place, found, Answer::Found(found), Wrote::Place)),
-            },
-            (Place::Tail(_), Operation::Add) => match self.add_tail() {
-                Err(refusal) => Err(refusal),
-                Ok(_) => Ok(Done::of_operation(place, found, Answer::Found(found), Wrote::Place)),
-            },
+            (Place::Head(_), Operation::Add) => {
+                self.add_head()?;
+                Ok(Done::of_operation(place, found, Answer::Found(found), Wrote::Place))
+            }
+            (Place::Tail(_), Operation::Add) => {
+                self.add_tail()?;
+                Ok(Done::of_operation(place, found, Answer::Found(found), Wrote::Place))
+            }
             (Place::Tail(_), Operation::Close) => {
                 let closed = self.close();
                 Ok(Done::of_operation(place, found, Answer::WasClosed(closed), Wrote::Place))

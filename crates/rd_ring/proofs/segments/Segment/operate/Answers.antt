@@ -16,18 +16,6 @@ cas2_cell-won-requires g c = (
   cell_is_within c.args.self.now _ _ c.args.place c.in-Some.found c.in-Cell-Cas2.is-0 (sym c.in-Some.ensures),
 )
 
-pub returns-in-Err-clause-err : goal.returns-in-Err-clause-err
-returns-in-Err-clause-err g c = grind arith
-
-pub returns-in-Ok-clause-ok : goal.returns-in-Ok-clause-ok
-returns-in-Ok-clause-ok g c = grind arith
-
-pub returns-in-Err-add_tail-clause-err : goal.returns-in-Err-add_tail-clause-err
-returns-in-Err-add_tail-clause-err g c = grind arith
-
-pub returns-in-Ok-add_tail-clause-ok : goal.returns-in-Ok-add_tail-clause-ok
-returns-in-Ok-add_tail-clause-ok g c = grind arith
-
 pub returns-in-Tail-Close-clause-ok : goal.returns-in-Tail-Close-clause-ok
 returns-in-Tail-Close-clause-ok g c =
     Operates-from_OperatesAt c.args.self.now _ (λ s. place.Tail s) _ c.args.place _ c.args.operation _ c.in-Some.found _ _ c.of_operation-in-Tail-Close.result (λ q. refl)
