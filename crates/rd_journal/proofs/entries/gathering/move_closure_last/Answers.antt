@@ -1,3 +1,6 @@
+-- The index has the entries before the k-th and those gathered so far (`UnderWay`). So it finds
+-- that the next entry depends on a gathered one exactly if this entry is in the closure. A number
+-- is gathered or stays, and none is lost.
 use Rattle.rd_journal.proofs.Prelude.{put_mid, vec_capacity, append-nil, drop-drop, drop_at, length-take-le, depends_on_any, Entry, HasRoomFor, at_numbers, ◌≡◌, ◌∙◌, ◌+◌, ◌-◌, ◌<◌, ◌≤◌, ℕ, List, [], ◌∷◌, ◌++◌, length, take, drop, set, Bool, refl, sym, ap, subst, arith, rules, length-append, length-drop, drop_of_length-le, take_all}
 use Rattle.rd_journal.proofs.GatheringLoop.{live_of, live_of-length, UnderWay, next_one, first_gathered, before_next, joined, stayed, ended, carried}
 use Rattle.rd_journal.proofs.RoomLemmas.{fits_one, fits_between}

@@ -1,3 +1,6 @@
+-- Each call that can be refused leaves the steps as they were, and if the index lacks room for the
+-- step, `unstep` takes the world back to where it was. So a refused event changes no step, and it
+-- is refused for a cause that the state shows.
 use Rattle.rd_journal.proofs.Prelude.{common_steps, ℕ, Err, ◌≡◌, ◌∙◌, ◌<◌, List, ◌++◌, length, take, drop, inl, inr, refl, sym, ap, subst, arith, opened_with, append-nil, take_all, take-append-le, drop-append_seam, Entry, HasRoomInstead, kept_entries, model, room, MOST_STEPS, error_passed_up, fact_passed_up, err_then, ok_then, IsAppendedToLive, whole_journal, live_entries, ahead_entries, journal}
 use Rattle.rd_journal.proofs.Ahead.{with_undone, is_session, none_taken}
 use Rattle.rd_journal.proofs.Calls.{apply_refused, apply_goes, longer_session, still, unchanged, may_refuse-state}

@@ -1,3 +1,6 @@
+-- Undoing leads back to the world after the first n steps. The given entries are those of a run
+-- from there, so their steps can be made (`may_exchange`). Only the index can be refused memory,
+-- before anything has changed.
 use Rattle.rd_journal.proofs.Prelude.{◌≡◌, ◌∙◌, ◌≤◌, ℕ, List, ◌++◌, length, take, drop, refl, ap, subst, arith, opened_with, append-nil, length-take-le, take-append-le, drop_at, drop-append-le, error_passed_up, HasRoomInstead, model, room, Entry, IsIndexOf, whole_journal, live_entries, ahead_entries, journal}
 use Rattle.rd_journal.proofs.Ahead.{with_undone, is_session}
 use Rattle.rd_journal.proofs.Runs.{live_lead}

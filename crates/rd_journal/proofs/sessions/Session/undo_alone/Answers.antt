@@ -1,3 +1,5 @@
+-- No later step depends on the k-th, so the others are a run without it, and `unstep` leads to that
+-- run's world (`may_undo_at`). The entry and its position in the index move alike.
 use Rattle.rd_journal.proofs.Prelude.{ℕ, refl, ◌∙◌, List, ap, sym, subst, arith, length, opened_with, model, room, Entry, IsIndexOf, moved_to, kept_entries, IsUndoneAlone, whole_journal}
 use Rattle.rd_journal.proofs.Ahead.{alone_undone}
 use Rattle.rd_journal.proofs.ListLemmas.{IsNumber}

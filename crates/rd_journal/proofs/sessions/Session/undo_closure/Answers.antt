@@ -1,3 +1,6 @@
+-- The index is cut to the entries before the k-th, as `gather_closure` requires. Then the closure
+-- is the end of a run of the same steps (`gathered_session`). So undoing as many of the last steps
+-- undoes just the closure.
 use Rattle.rd_journal.proofs.Prelude.{opened_with, common_steps, append-nil, length-take-le, take_at, drop_at, take-append-le, drop-append-le, model, room, closure_entries, without_closure, Entry, IsIndexOf, HasRoomFor, live_entries, ahead_entries, kept_entries, whole_journal, ◌≡◌, ◌∙◌, ◌-◌, List, [], ◌++◌, refl, ap, subst, arith, take, drop, length}
 use Rattle.rd_journal.proofs.Calls.{back_start}
 use Rattle.rd_journal.proofs.Finding.{cut_before}

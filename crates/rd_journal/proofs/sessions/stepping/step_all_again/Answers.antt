@@ -1,3 +1,5 @@
+-- The first `next` steps have led from the old world to the present one, and the others are those
+-- of a run from there. So the next step can be made, and leaves its own entry.
 use Rattle.rd_journal.proofs.Prelude.{◌≡◌, ◌∙◌, ◌+◌, ◌<◌, List, [], ◌∷◌, ◌++◌, Ok, take, drop, length, refl, sym, ap, subst, arith, drop_all, take_all, take_more, World, Stepped, model, room, run, Entry, first_step, events, IsRunFrom}
 use Rattle.rd_journal.proofs.ListLemmas.{drop_one_less}
 use Rattle.rd_journal.proofs.RoomLemmas.{redo_room, redone_room}

@@ -1,3 +1,5 @@
+-- The steps not yet undone are those of a run that leads to the present world. So the last of them
+-- can be undone, and the others are those of a run to the world before it.
 use Rattle.rd_journal.proofs.Prelude.{◌≡◌, ℕ, ◌+◌, ◌-◌, ◌≤◌, List, take, drop, sym, ap, subst, arith, take_all, drop_all, World, model, room, Entry, LeadsTo, room_returned_by}
 use Rattle.rd_journal.proofs.ListLemmas.{IsNumber, up_to_it, from_it}
 use Rattle.rd_journal.proofs.Runs.{may_step_back}

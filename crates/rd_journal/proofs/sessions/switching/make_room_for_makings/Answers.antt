@@ -1,3 +1,6 @@
+-- Each turn makes room for one more actor and takes none from the others. What an actor needs
+-- beyond the room that undoing returns is its makings among the given entries less those among the
+-- dropped ones (`asked`).
 use Rattle.rd_journal.proofs.Prelude.{◌≡◌, ℕ, zero, suc, ◌+◌, ◌-◌, ◌<◌, ◌∙◌, IsSome, List, get_or, subst, sym, arith, rules, World, model, room, Entry, error_passed_up, room_returned_by, room_after_undoing}
 use Rattle.rd_journal.proofs.Switching.{room_for_one_more, room_for_actors}
 use Rattle.rd_journal.proofs.sessions.switching.make_room_for_makings.Goals as goal

@@ -1,3 +1,6 @@
+-- If one list begins the other, they are equivalent exactly if they are equally long. If not, the
+-- common beginning doesn't matter: the lists are equivalent exactly if the rest of one is
+-- equivalent to the rest of the other.
 use Rattle.rd_marks.proofs.Prelude.{◌≡◌, ◌∙◌, ℕ, ◌≤◌, take, arith, fact_passed_up, NeitherBegins, DecidesEquivalence, Node, entries_at, stretches_in, IsWithin, events, IfOk-weaker, ◌⊎◌, Bool, ◌==◌, sym, ap, List, [], ◌∷◌, ◌++◌, length, drop, length-append, eqb-true, eq-eqb, take_all, World, IsEquivalent, Event, Entry, Begins, equivalence_reflexive, runs_to, take_rest}
 use Rattle.rd_marks.proofs.Starting.{entries_length, begins_shorter, event_length}
 use Rattle.rd_equivalence.proofs.Exactness.{right_behind}

@@ -1,3 +1,6 @@
+-- If the stretches get no room, names and stretches are as they were (`stay`). Otherwise the new
+-- node has just the live entries, and the renumbered nodes have the entries that they had
+-- (`put_last`).
 use Rattle.rd_marks.proofs.Prelude.{◌≡◌, ◌++◌, ◌∙◌, [], ◌∷◌, List, ap, arith, length-map, lookup-map_values, fact_passed_up, Entry, state, track, named_entries_in, here_entries, IsKept, named_entries, mark_name_eq, entries_at, events, option_map}
 use Rattle.rd_marks.proofs.Counting.{all_along}
 use Rattle.rd_marks.proofs.Here.{live_along, live_begin}

@@ -1,3 +1,6 @@
+-- The events of the deepest agreeing node begin the live ones. So what it has in common with the
+-- node, the live events have too (`common_live`); and they have no more, since no node agrees with
+-- more of them (`no_more_common`).
 use Rattle.rd_marks.proofs.Prelude.{List, ◌++◌, ◌≤◌, take, lit<, ap, subst, length, ◌∙◌, arith, on_err_weaker, length-map, Entry, journal, state, entries_at, events, IsRunFrom, NeedsCopy, inr, refl, sym, ◌≡◌, ℕ, suc, take-length, take-take, Event, Begins, Node, Stretch, stretch_list, stretches_in, IsWithin, AgreesFor, IsDeepest, ◌+◌, MOST_STEPS, length-drop, drop_all}
 use Rattle.rd_marks.proofs.Here.{live_along}
 use Rattle.rd_marks.proofs.Starting.{entries_length, begins_shorter, stretch_within, events_length, events_of_first, first_events}

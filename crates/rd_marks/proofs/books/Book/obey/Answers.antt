@@ -1,3 +1,6 @@
+-- Each arm hands on what its call ensures. An event is refused only as `apply` may refuse it
+-- (`refused_event`), and any other command has no event (`no_event_refused`). That start and state
+-- stay follows from the answer's definition (`obeyed_leaves`).
 use Rattle.rd_marks.proofs.Prelude.{IsOk, ap, sym, subst, Command, as_event, book_state, name_room, SetsMarkWithoutMemory, arith}
 use Rattle.rd_marks.specs.declared.commands.Command.TheVariants as command
 use Rattle.rd_marks.proofs.ObeyLemmas.{no_event_refused, obeyed_leaves, refused_event}

@@ -1,3 +1,6 @@
+-- Each arm does the operation by the segment's own call for this place. The content that was found
+-- there is the operand, so the call's answer and the place's new content are those that the
+-- operation defines (`Operates-from_OperatesAt`).
 use Rattle.rd_ring.proofs.Prelude.{sym, ◌∙◌, ap, arith, refl, Some, if◌then◌else◌, Content, Wrote, operand, segment_contents}
 use Rattle.rd_ring.proofs.OperationLemmas.{Operates-read, Operates-from_OperatesAt, cell_is_within}
 use Rattle.rd_ring.proofs.segments.Segment.operate.Goals as goal

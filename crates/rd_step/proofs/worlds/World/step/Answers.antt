@@ -1,3 +1,6 @@
+-- The code makes the step in the order of its definition: it finds the actor, asks for the access,
+-- does it, and goes on with the answer. Whatever refuses comes before the first change, and a step
+-- leads from a well-formed world to a well-formed one (`step_keeps_well_formed`).
 use Rattle.rd_step.proofs.Prelude.{◌∙◌, sym, subst, inl, arith, is_make, model, world_of_fields, IsWellFormed, uses_passed_up, uses_too}
 use Rattle.rd_step.proofs.PassedUp.{error_passed_up, fact_passed_up}
 use Rattle.rd_step.proofs.Steps.{step-refused_by_need}

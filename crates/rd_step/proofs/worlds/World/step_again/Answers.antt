@@ -1,3 +1,6 @@
+-- The entry is the one that its event's step leaves here, so it has the actor's record and the
+-- access's answer. An access that wrote nothing leaves all places as they are (`read_again`). Any
+-- other is done again as in the step, which isn't refused (`access_again`).
 use Rattle.rd_step.proofs.Prelude.{sym, arith, is_make, model, uses_too}
 use Rattle.rd_step.proofs.Keeps.{step_keeps_well_formed}
 use Rattle.rd_step.proofs.MadeAgain.{leaves, not_refused, read_again, access_again}
