@@ -1,5 +1,5 @@
 -- Each book keeps the run of its live events, as the headline states.
-use Rattle.rd_marks.proofs.Prelude.{◌≡◌, ◌↔◌, ◌-◌, ◌≤◌, ℕ, refl, length, Option, Some, None, Ok, Err, IsOk, arith, Entry, state_of, undo_at, Journal, journal, numbered, first_dependant, and_then, IsRun, unless_depended, event_of_entry, book_state, session_of, Book}
+use Rattle.rd_marks.proofs.Prelude.{◌≡◌, ◌↔◌, ◌⊎◌, ◌-◌, ◌<◌, ◌≤◌, ℕ, refl, sym, subst, length, Option, Some, None, Ok, Err, IsOk, arith, Entry, State, state_of, undo_at, Journal, journal, numbered, first_dependant, and_then, IsRun, unless_depended, event_of_entry, BookState, book_state, session_of, Book}
 use Rattle.rd_journal.proofs.Ahead.{is_session}
 use Rattle.rd_journal.proofs.Finding.{numbered_in}
 use Rattle.rd_journal.proofs.ListLemmas.{nth}
@@ -30,14 +30,17 @@ free j runs k some within =
     let here : numbered j.live k ≡ Some x.0 = numbered_in j.live k x.0 some within x.1 in
     rw (undo_at_found j k x.0 runs here) (done_exactly_if_none _ (first_dependant j.live k))
 
+-- a book whose session is the state of a run keeps the run of its live events
+pub run_of_live : (b : BookState) (j : Journal) → b.session ≡ state_of j → IsRun j → IsRunOfLive b j
+run_of_live b j same runs = record {
+  is_run = runs;
+  state = same;
+  free = subst (λ (s : State). (k : ℕ) → 1 ≤ k → k ≤ length j.live → IsOk (undo_at s k) ↔ (first_dependant j.live k ≡ None)) (sym same) (free j runs);
+  refused = subst (λ (s : State). (k n : ℕ) → (undo_at s k ≡ Err (refusal.Depended n)) ↔ (first_dependant j.live k ≡ Some n)) (sym same) (refused j runs);
+  missing = subst (λ (s : State). (k : ℕ) → (k ≡ 0) ⊎ (length j.live < k) → undo_at s k ≡ Err (refusal.NoSuchStep (length j.live))) (sym same)
+      (λ k none. (undo_at_missing j (length j.live) k refl none).0);
+}
+
 -- each book keeps the run of its live events
 pub book_runs : {R : ℕ} (b : Book R) → IsRunOfLive (book_state b) (journal (session_of b))
-book_runs b =
-    let runs = (is_session b.session).runs in
-    record {
-      is_run = runs;
-      state = refl;
-      free = free (journal b.session) runs;
-      refused = refused (journal b.session) runs;
-      missing = λ k none. (undo_at_missing (journal b.session) (length (journal b.session).live) k refl none).0;
-    }
+book_runs b = run_of_live (book_state b) (journal (session_of b)) refl (is_session b.session).runs

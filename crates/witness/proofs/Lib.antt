@@ -1,4 +1,3 @@
-pub mod LiveRuns
 pub mod SessionLemmas
 pub mod OneAnswer
 pub mod OnlyReport

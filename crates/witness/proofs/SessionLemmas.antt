@@ -36,7 +36,7 @@ use Rattle.rd_script.specs.Replies.{answer_text}
 use Rattle.rd_script.specs.AnyBook.{fresh_state}
 use Rattle.rd_script.specs.Answers.{AreObeyedLines, line_answer}
 use Rattle.rd_script.specs.Script.{RunsScript}
-use Rattle.witness.proofs.LiveRuns.{run_of_live}
+use Rattle.rd_marks.proofs.Headlines.{run_of_live}
 use Rattle.witness.specs.Session.{devices_of, third_begins, before_put, put, before_look, look_and_take, but_first, played, book_with, last, script, report}
 
 -- the entry of the put
