@@ -1,10 +1,9 @@
 -- An operation at any place of a segment.
-use Rattle.rd_ring.proofs.Prelude.{◌≡◌, ℕ, sym, ◌∙◌, ap, arith, ◌<◌, Option, Some, None, option_map, slice_get, slice_get_past, read_answer, segment_contents, OperatesAt}
-use Rattle.rd_ring.specs.Prelude.{Cell, SegName, Place, Wrote, Content, Operation, Answer, Done, is_of_segment, is_of_same_segment, cell_of_halves, operand, Operates}
+use Rattle.rd_ring.proofs.Prelude.{◌≡◌, ℕ, arith, ◌<◌, Some, slice_get_past, read_answer, segment_contents, OperatesAt}
+use Rattle.rd_ring.specs.Prelude.{SegName, Place, Wrote, Content, Operation, Answer, Done, is_of_segment, is_of_same_segment, operand, Operates}
 use Rattle.rd_ring.specs.declared.segments.Segment.{Segment}
 use Rattle.rd_cell.specs.declared.places.Place.TheVariants as place
 use Rattle.rd_cell.specs.declared.places.Wrote.TheVariants as wrote
-use Rattle.rd_cell.specs.declared.contents.Content.TheVariants as content
 
 -- a read answers what it finds, is done at its place, and leaves the segment as it was
 pub Operates-read : {R : ℕ} (seg : Segment R) (p : Place) (op : Operation) (c : Content) (a : Answer) (done : Done) → operand (segment_contents seg) p ≡ Some c
@@ -20,15 +19,6 @@ pub Operates-from_OperatesAt : {R : ℕ} (old new : Segment R) (place : SegName 
     → Operates (is_of_same_segment p) p op' done (segment_contents old) (segment_contents new)
 Operates-from_OperatesAt {R} old new place s p op op' c d answer wrote done beside at same found operates notes = grind arith
 
--- a number at which the segment has a cell is below R
-within_cells : {R : ℕ} (seg : Segment R) (i : ℕ) → (slice_get seg.cells i ≡ None → ⊥) → i < R
-within_cells {R} seg i there = grind (arith, slice_get_past)
-
 -- a cell that an operation finds is one of the R cells
 pub cell_is_within : {R : ℕ} (seg : Segment R) (s : SegName) (i : ℕ) (p : Place) (c : Content) → p ≡ place.Cell s i → operand (segment_contents seg) p ≡ Some c → i < R
-cell_is_within seg s i p c at found =
-    within_cells seg i (λ none.
-    let read : operand (segment_contents seg) (place.Cell s i) ≡ Some c = sym (ap (operand (segment_contents seg)) at) ∙ found in
-    let e : operand (segment_contents seg) (place.Cell s i) ≡ None =
-    ap (λ (o : Option Cell). cell_of_halves (option_map (λ x. content.Val x.val) o) (option_map (λ x. content.Idx x.safe x.idx) o)) none in
-    cc)
+cell_is_within seg s i p c at found = grind (arith, seg.sized, slice_get_past)

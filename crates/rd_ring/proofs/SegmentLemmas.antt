@@ -1,9 +1,9 @@
 -- What an operation leaves at each place of a segment.
-use Rattle.rd_ring.proofs.Prelude.{◌≡◌, ℕ, ◌<◌, Bool, true, refl, sym, ap, arith, Some, None, List, ◌↔◌, ◌∙◌, length, set, slice_get, Ok, true≢false, false_from_ne_true, performed_at, result_map, slice_get-set_same, slice_get-set_other, segment_contents, cas_answer, cas_wrote, OperatesAt, RefusesAt, RestoresAt}
+use Rattle.rd_ring.proofs.Prelude.{◌≡◌, ℕ, ◌<◌, Bool, true, sym, ap, arith, Some, None, List, ◌↔◌, ◌∙◌, length, set, slice_get, Ok, true≢false, false_from_ne_true, slice_get-set_same, slice_get-set_other, segment_contents, cas_answer, cas_wrote, OperatesAt, RefusesAt, RestoresAt}
 use Rattle.std.specs.Bool.{OnTrue, OnFalse}
 use Rattle.std.proofs.lemmas.List.{set-get_or}
 use Rattle.std.proofs.lemmas.Option.{get_or_from_slice_get}
-use Rattle.rd_ring.specs.Prelude.{COUNTER_END, Cell, SegName, Place, Content, Operation, Add, Cas2, Answer, root, effect, wrote_cell, operate, operand}
+use Rattle.rd_ring.specs.Prelude.{COUNTER_END, Cell, SegName, Place, Content, Operation, Add, Cas2, Answer, root, effect, wrote_cell, operand}
 use Rattle.rd_cell.proofs.CellLemmas.{cell_eq-true}
 use Rattle.rd_ring.specs.declared.segments.Segment.{Segment}
 use Rattle.rd_cell.specs.declared.places.Place.TheVariants as place
@@ -23,14 +23,7 @@ RestoresAt-cell old new i cell within head next cells bit tail = record { named 
 OperatesAt-read : {R : ℕ} (old new : Segment R) (place : SegName → Place) (op : Operation) (found : Content) (answer : Answer)
     → ((s : SegName) → operand (segment_contents old) (place s) ≡ Some found) → effect op found ≡ Ok (record { answer = answer; writes = None })
     → ((q : Place) → segment_contents new q ≡ segment_contents old q) → OperatesAt place op found answer wrote.Nothing old new
-OperatesAt-read old new place op found answer there does same = record {
-  named = λ s. record {
-    performed = performed_at (place s) found (record { answer = answer; writes = None });
-    performs = ap (operate (place s) op) (there s) ∙ ap (result_map (performed_at (place s) found)) does;
-    keeps = refl;
-    leaves = λ q h. same q;
-  };
-}
+OperatesAt-read old new place op found answer there does same = record { named = λ s. grind (arith, there s) }
 
 -- Fetch-and-adds
 

@@ -68,8 +68,7 @@ module _ {R : ℕ} where
   only_first ss s one two = grind (arith, common_steps, slice_get_cases, only_one)
 
   no_first : (ss : List (Segment R)) → slice_get ss 0 ≡ None → ss ≡ []
-  no_first [] h = refl
-  no_first (s ∷ ss) h = absurd (cc)
+  no_first ss h = grind (arith, common_steps, slice_get_cases)
 
   module _ (first : ListOf (Segment R)) (lists : List (ListOf (Segment R))) (h : AreFreshLists (first ∷ lists)) where
     pub first_alone : IsOneFreshSegment first.items
@@ -100,10 +99,7 @@ module _ {R : ℕ} (makers : List (ListOf (Segment R))) (qhead qtail : SegName) 
   fresh_ends = (grind (arith, at place.QHead), grind (arith, at place.QTail))
 
   array_at : (q : Place) → array_contents array q ≡ fresh_array q
-  array_at place.ArrHead = at place.ArrHead
-  array_at place.ArrTail = at place.ArrTail
-  array_at (place.ArrCell i) = at (place.ArrCell i)
-  array_at _ = refl
+  array_at q = grind (arith, at q)
 
   root_parts : (s : Segment R) → by_name makers root ≡ Some s → (q : Place) → segment_contents s q ≡ fresh_segment R q
   root_parts s is (place.Head t) = ap (λ o. some_contents o (place.Head root)) (sym is) ∙ at (place.Head root)
