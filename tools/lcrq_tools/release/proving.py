@@ -2,12 +2,19 @@
 
 `quick_build.py --proved` calls this. `rt run` proves one crate after another, and most of a check has work
 for fewer than two processors. Here the check of a crate begins when those that it uses are proved, the one
-with the longest chain of crates above it first, and each may use all processors. No proof rests on the order.
+with the longest chain of crates above it first, and each may use all processors; those with a shorter chain
+leave them to it (`nice`). No proof rests on the order.
+
+`rt` has one run at a time in the folders of a crate and of those below it. So each check works on a copy of
+them, with the libraries that were made of them, and what it made is moved to the repository.
 """
 
 import concurrent.futures
+import functools
 import os
+import shutil
 import subprocess
+import tempfile
 import time
 from collections.abc import Callable
 from pathlib import Path
@@ -17,14 +24,22 @@ from lcrq_tools.places import CRATES, TOP
 
 PROGRAM = "lcrqdb"
 AT_ONCE = 3  # crates: with more, the longest chain gets less of the processors
+LEAVES = 10  # the niceness of a check that others shall not wait for
+OUT = "out"  # what `rt` makes of a crate, in its folder
+LIBRARY = "rlib"  # in that folder, the library for the crates above
 Uses = dict[str, list[str]]  # of each crate of the repository, those of them that it uses
-Proves = Callable[[str], int]  # a crate, by its name: the exit status
+Proves = Callable[[str, int], int]  # a crate, by its name, at this niceness: the exit status
+
+
+def rows_of(text: str) -> dict[str, str]:
+    """The rows of crates.txt, by the crate that each is for."""
+    return {row.partition(":")[0].split()[0]: row for row in text.splitlines() if row.strip()}
 
 
 def uses_in(text: str) -> Uses:
     """What crates.txt says that each crate uses, without the kit's libraries."""
-    rows = {name.split()[0]: used.split() for name, _, used in (row.partition(":") for row in text.splitlines() if row.strip())}
-    return {name: [used for used in words if used in rows] for name, words in rows.items()}
+    rows = rows_of(text)
+    return {name: [used for used in row.partition(":")[2].split() if used in rows] for name, row in rows.items()}
 
 
 def needed(uses: Uses, name: str) -> Uses:
@@ -51,12 +66,33 @@ def heights(uses: Uses) -> dict[str, int]:
     return {name: height(name) for name in uses}
 
 
-def prove(name: str) -> int:
-    """Has `rt` check a crate; what it says goes to standard error if it isn't proved."""
-    words = ["rt", "check", "--jobs", str(os.cpu_count() or 1)]
-    ended = subprocess.run(words, cwd=CRATES / name, stdout=subprocess.PIPE, stderr=subprocess.STDOUT, text=True, check=False)
-    if ended.returncode:
-        say(ended.stdout.rstrip())
+def copied(crates: str, name: str, to: Path) -> Path:
+    """Copies what a check of the crate reads, with crates.txt of these crates; the crate's folder there. A library is
+    linked, since `rt` never writes into one."""
+    below = needed(uses_in(crates), name)
+    shutil.copy(TOP / "HANDLES", to)
+    rows = [row for crate, row in rows_of(crates).items() if crate in below]
+    (to / "crates.txt").write_text("\n".join([*rows, ""]), encoding="utf-8")
+    for crate in below:
+        there = to / CRATES.name / crate
+        shutil.copytree(CRATES / crate, there, ignore=shutil.ignore_patterns(OUT))
+        made = Path(OUT) if crate == name else Path(OUT, LIBRARY)
+        if (CRATES / crate / made).is_dir():
+            shutil.copytree(CRATES / crate / made, there / made, copy_function=os.link)
+    return to / CRATES.name / name
+
+
+def prove(crates: str, name: str, niceness: int) -> int:
+    """Has `rt` prove a library and make it; what `rt` says goes to standard error if it isn't proved."""
+    words = ["nice", "-n", str(niceness), "rt", "lib", "--jobs", str(os.cpu_count() or 1)]
+    with tempfile.TemporaryDirectory(prefix="proving-", dir=TOP) as place:
+        folder = copied(crates, name, Path(place))
+        ended = subprocess.run(words, cwd=folder, stdout=subprocess.PIPE, stderr=subprocess.STDOUT, text=True, check=False)
+        if ended.returncode:
+            say(ended.stdout.rstrip())
+        else:
+            shutil.rmtree(CRATES / name / OUT, ignore_errors=True)
+            (folder / OUT).rename(CRATES / name / OUT)
     return ended.returncode
 
 
@@ -70,9 +106,10 @@ def prove_in_turn(uses: Uses, proves: Proves, at_once: int = AT_ONCE) -> None:
     with concurrent.futures.ThreadPoolExecutor(at_once) as pool:
         while len(proved) < len(uses):
             ready = [name for name in order if name not in begun and proved.issuperset(uses[name])]
+            longest = max(chains[name] for name in uses if name not in proved)
             for name in ready[: at_once - len(running)]:
                 begun[name] = time.monotonic()
-                running[pool.submit(proves, name)] = name
+                running[pool.submit(proves, name, LEAVES * (chains[name] < longest))] = name
             for ended in concurrent.futures.wait(running, return_when=concurrent.futures.FIRST_COMPLETED).done:
                 name = running.pop(ended)
                 if ended.result():
@@ -82,8 +119,12 @@ def prove_in_turn(uses: Uses, proves: Proves, at_once: int = AT_ONCE) -> None:
 
 
 def build(script: Path) -> None:
-    """Proves the program, and has `rt run` put it where the tools look for it, which runs it once."""
-    prove_in_turn(needed(uses_in((TOP / "crates.txt").read_text(encoding="utf-8")), PROGRAM), prove)
+    """Proves the program's libraries, and has `rt run` prove the program itself, put it where the tools look for it,
+    and run it once."""
+    crates = (TOP / "crates.txt").read_text(encoding="utf-8")
+    uses = needed(uses_in(crates), PROGRAM)
+    del uses[PROGRAM]
+    prove_in_turn(uses, functools.partial(prove, crates))
     words = ["rt", "run", "--", "run", str(script)]
     ended = subprocess.run(words, cwd=CRATES / PROGRAM, stdout=subprocess.DEVNULL, check=False)
     if ended.returncode:

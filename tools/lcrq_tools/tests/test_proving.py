@@ -2,8 +2,11 @@
 
 import contextlib
 import io
+import tempfile
 import threading
 import unittest
+from pathlib import Path
+from unittest import mock
 
 from lcrq_tools.faults import Fault
 from lcrq_tools.places import TOP
@@ -32,14 +35,33 @@ class Orders(unittest.TestCase):
     def test_a_chain_is_as_long_as_its_longest_way_up(self) -> None:
         self.assertEqual(proving.heights(USES), {"low": 3, "side": 2, "high": 2, "top": 1, "beside": 1})
 
+    def test_a_check_gets_the_crates_below_with_their_libraries_and_no_other(self) -> None:
+        with tempfile.TemporaryDirectory() as place:
+            top, to = Path(place, "top"), Path(place, "to")
+            for name in USES:
+                (top / "crates" / name / "out" / "rlib").mkdir(parents=True)
+                (top / "crates" / name / "out" / "rlib" / "made").touch()
+                (top / "crates" / name / "out" / "work").touch()
+            (top / "HANDLES").touch()
+            to.mkdir()
+            with mock.patch.multiple(proving, TOP=top, CRATES=top / "crates"):
+                self.assertEqual(proving.copied(ROWS, "high", to), to / "crates" / "high")
+            found = sorted(str(path.relative_to(to)) for path in to.rglob("*") if path.is_file())
+            self.assertEqual((to / "crates.txt").read_text(), "low:\nhigh: low kit\n")
+        self.assertEqual(
+            found, ["HANDLES", "crates.txt", "crates/high/out/rlib/made", "crates/high/out/work", "crates/low/out/rlib/made"]
+        )
+
     def test_each_crate_is_proved_once_and_after_those_that_it_uses(self) -> None:
         done: list[str] = []
+        leaves: set[tuple[str, bool]] = set()
         lock = threading.Lock()
 
-        def proves(name: str) -> int:
+        def proves(name: str, niceness: int) -> int:
             with lock:
                 assert set(done).issuperset(USES[name])
                 done.append(name)
+                leaves.add((name, niceness > 0))
             return 0
 
         for at_once in (1, 3):
@@ -49,12 +71,14 @@ class Orders(unittest.TestCase):
             self.assertEqual(sorted(done), sorted(USES))
             self.assertLess(done.index("low"), done.index("beside"))
             done.clear()
+        self.assertLessEqual({("low", False), ("high", False), ("side", True), ("beside", True), ("top", False)}, leaves)
 
     def test_nothing_is_begun_after_a_crate_that_is_not_proved(self) -> None:
         begun: list[str] = []
 
-        def proves(name: str) -> int:
+        def proves(name: str, niceness: int) -> int:
             begun.append(name)
+            self.assertEqual(niceness, 0)
             return int(name == "low")
 
         with self.assertRaisesRegex(Fault, "^low is not proved$"):
