@@ -17,7 +17,7 @@ use Rattle.rd_cell.specs.declared.refusal.Refusal.{Refusal}
 use Rattle.rd_cell.specs.declared.refusal.Refusal.TheVariants as refusal
 use Rattle.rd_cell.specs.Places.{place_eq, written}
 use Rattle.rd_cell.specs.Contents.{is_there, Contents, share, after_some_write, restore, operand, segment_holding}
-use Rattle.rd_cell.specs.Operations.{Effect, effect, wrote_by, suits}
+use Rattle.rd_cell.specs.Operations.{Effect, effect, wrote_by, keeps_limits}
 use Rattle.rd_cell.specs.Results.{and_then, result_map}
 
 -- what an access did: its `place` and that place's `old` content, each none if there is none; its
@@ -79,10 +79,10 @@ perform R actor at NoPlace = Ok no_access
 perform R actor at (At p op) = operate p op (operand at p)
 perform R actor at (Make x) = make (record { maker = actor; n = number_made at actor }) (segment_holding R x)
 
--- whether the operation of this access suits its place; true without an operation
-abbrev pub access_suits : Access → Bool
-access_suits (At p op) = suits p op
-access_suits _ = true
+-- whether the operation of this access keeps the limits of its place; true without an operation
+abbrev pub access_keeps_limits : Access → Bool
+access_keeps_limits (At p op) = keeps_limits p op
+access_keeps_limits _ = true
 
 -- the access whose result is `does` wasn't refused and took place: `performed` is what it did,
 -- `done` is what the entry of its step records, and each place at which we look has in `new` the

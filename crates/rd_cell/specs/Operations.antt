@@ -95,22 +95,22 @@ is_read _ = false
 abbrev pub read_answer : Operation → Content → Option Answer
 read_answer op c = if is_read op then option_map (λ e. e.answer) (result_ok (effect op c)) else None
 
--- whether an operation may be done on a segment: any may, except the array's fetch-and-add, which
--- has another limit, and a compare-and-swap that would set the tail past 2^62. `effect` refuses one
--- that is for another kind of content
-abbrev pub suits_segments : Operation → Bool
-suits_segments AddArray = false
-suits_segments (CasTail old new) = nat_le new COUNTER_END
-suits_segments _ = true
+-- whether an operation leaves the counters of a segment at most at their end: any does, except the
+-- array's fetch-and-add, whose own limit is another one, and a compare-and-swap that would set the
+-- tail past 2^62. Whether it is for this kind of content is said by `effect`
+abbrev pub keeps_segment_limits : Operation → Bool
+keeps_segment_limits AddArray = false
+keeps_segment_limits (CasTail old new) = nat_le new COUNTER_END
+keeps_segment_limits _ = true
 
--- whether an operation may be done on the array: any may, except a segment's fetch-and-add, whose
--- limit is higher. `effect` refuses one that is for another kind of content
-abbrev pub suits_array : Operation → Bool
-suits_array Add = false
-suits_array _ = true
+-- whether an operation leaves the counters of the array at most at their end: any does, except a
+-- segment's fetch-and-add, whose own limit is higher
+abbrev pub keeps_array_limits : Operation → Bool
+keeps_array_limits Add = false
+keeps_array_limits _ = true
 
--- whether an operation may be done at this place: by the rule of the array for its places, and by
--- that of segments for all others. This is about limits alone: that the place is there, with the
--- right kind of content, is `SuitsContent` of rd_step
-abbrev pub suits : Place → Operation → Bool
-suits p op = if is_of_array p then suits_array op else suits_segments op
+-- whether an operation at this place keeps the limits: those of the array at its places, and those
+-- of segments at all others. That the place is there, with the right kind of content, is
+-- `SuitsContent` of rd_step
+abbrev pub keeps_limits : Place → Operation → Bool
+keeps_limits p op = if is_of_array p then keeps_array_limits op else keeps_segment_limits op

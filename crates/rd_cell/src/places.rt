@@ -164,7 +164,7 @@ pub fn written(place: Option<Place>, wrote: Wrote) -> Option<Place>
 pub fn overlaps(a: Place, b: Place) -> bool
     ensures { result ≡ overlaps a b }
 {
-    // A search for a dependant asks this for each step, so two places are compared only once.
+    // Two places are compared only once.
     match a {
         Place::Whole(name) => b.is_of_segment(name),
         Place::Cell(name, i) => b.is_of_cell(name, i) || b.covers(a),

@@ -17,8 +17,7 @@ pub fn depends(a: &Entry, b: &Entry) -> bool
     a.event.actor == b.event.actor || interfere(a, b)
 }
 
-/// Whether both steps touched a place that one of them wrote. The cheap tests come first: most
-/// steps that a scan meets only read, or are at other places.
+/// Whether both steps touched a place that one of them wrote. The cheap tests come first.
 #[inline(always)]
 fn interfere(a: &Entry, b: &Entry) -> bool
     ensures { result ≡ interfere a.now.place a.now.wrote b.now.place b.now.wrote }

@@ -2,7 +2,7 @@
 
 ghost use Rattle.std.specs.Prelude.{◌≡◌, Some, is_some, IsTrue, IfOk, IfErr, OnErr, Err};
 ghost use Rattle.rd_ring.specs.Prelude.{is_of_same_segment, can_hold, operand, operate, Operates, Restores};
-ghost use Rattle.rd_cell.specs.Operations.{suits_segments};
+ghost use Rattle.rd_cell.specs.Operations.{keeps_segment_limits};
 
 use super::segments::Segment;
 use rd_cell::{Answer, Content, Done, Operation, Place, Refusal, Wrote};
@@ -20,7 +20,7 @@ impl<const R: usize> Segment<R> {
     /// no such place, or if the operation is for another kind of content. No actor asks for either.
     /// The segment is then as before.
     pub fn operate(&mut self, place: Place, operation: Operation) -> Result<Done, Refusal>
-        requires { IsTrue (suits_segments operation) }
+        requires { IsTrue (keeps_segment_limits operation) }
         ensures ok { IfOk result (λ done. Operates (is_of_same_segment place) place operation done
             (segment_contents self.old) (segment_contents self.new)) }
         ensures err { IfErr result (λ e. operate place operation (operand

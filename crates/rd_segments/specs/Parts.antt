@@ -1,5 +1,5 @@
 -- A space that is put together from parts.
-use Rattle.std.specs.Prelude.{ℕ, Bool, List, Option, option_and_then}
+use Rattle.std.specs.Prelude.{◌≡◌, ℕ, Bool, List, Option, option_and_then}
 use Rattle.std.specs.List.{list_all}
 use Rattle.rd_ring.specs.Prelude.{SegName, Contents}
 use Rattle.rd_ring.specs.declared.parts.SegmentParts.{SegmentParts}

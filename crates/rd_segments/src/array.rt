@@ -4,13 +4,13 @@
 ghost use Rattle.std.specs.Prelude.{◌≡◌, ◌↔◌, is_some, length, Some, Err, IsTrue, IfOk, IfErr, OnErr};
 ghost use Rattle.std.specs.List.{All};
 ghost use Rattle.rd_ring.specs.Prelude.{SLOTS, can_hold, operand, operate, restore, everywhere, Operates, OperatesOnContent};
-ghost use Rattle.rd_cell.specs.Operations.{suits_array};
+ghost use Rattle.rd_cell.specs.Operations.{keeps_array_limits};
 
 use super::ends::done_of_read;
 use rd_cell::limits::SLOTS;
 use rd_cell::{Answer, ArrSlot, Content, Done, Operation, Place, Refusal, Wrote};
 
-/// The words of the array.
+/// The array: its two counters and its slots.
 #[derive(Clone, Copy, Debug)]
 pub struct ArrayParts {
     /// The head counter: the next position that a dequeue draws, 0 to 64 in a well-formed world.
@@ -74,7 +74,7 @@ impl ArrayParts {
     /// has no such place, or if the operation is for another kind of content. No actor asks for
     /// either. The array is then as before.
     pub(crate) fn operate(&mut self, place: Place, operation: Operation) -> Result<Done, Refusal>
-        requires { IsTrue (suits_array operation) }
+        requires { IsTrue (keeps_array_limits operation) }
         ensures ok { IfOk result (λ done. Operates everywhere place operation done
             (array_contents self.old) (array_contents self.new)) }
         ensures err { IfErr result (λ e. operate place operation
@@ -127,7 +127,7 @@ fn operate_on_counter(
     place: Place,
     operation: Operation,
 ) -> Result<Done, Refusal>
-    requires { IsTrue (suits_array operation) }
+    requires { IsTrue (keeps_array_limits operation) }
     ensures ok { IfOk result (λ done. OperatesOnContent place operation done
         (Content.Number counter.old) (Content.Number counter.new)) }
     ensures err { IfErr result (λ e. operate place operation (Some (Content.Number counter.old))

@@ -3,7 +3,7 @@
 
 ghost use Rattle.std.specs.Prelude.{◌≡◌, ◌≢◌, ◌+◌, ◌-◌, ◌<◌, ◌≤◌, ℕ, Some, None, Err, is_some, IsTrue, IfOk, IfErr, OnOk, OnErr, MatchOption, take, true, length, is_ok, vec_len, vec_capacity, if◌then◌else◌};
 ghost use Rattle.rd_ring.specs.Prelude.{MOST_CELLS, SegName, Place, segment_of, can_hold, operand, operate, segment_holding, everywhere, Operates, Makes, Restores, RefusesMaking};
-ghost use Rattle.rd_cell.specs.Operations.{suits_segments};
+ghost use Rattle.rd_cell.specs.Operations.{keeps_segment_limits};
 ghost use Rattle.rd_segments.specs.Lists.{by_name, some_contents, contents_of_lists, segment_count, MakesNext};
 ghost use Rattle.rd_segments.specs.Room.{room_of_maker, room_used, makers_room, KeepsMakersRoom, UsesMakersRoom, ReturnsMakersRoom, AddsMakersRoom};
 
@@ -36,7 +36,7 @@ pub fn operate_on_segment<const R: usize>(
 ) -> Result<Done, Refusal>
     requires small { R ≤ MOST_CELLS }
     requires its { segment_of place ≡ Some name }
-    requires suits { IsTrue (suits_segments operation) }
+    requires suits { IsTrue (keeps_segment_limits operation) }
     ensures ok { IfOk result (λ done. Operates everywhere place operation done
         (contents_of_lists makers.old.items) (contents_of_lists makers.new.items)) }
     ensures err { IfErr result (λ e. operate place operation

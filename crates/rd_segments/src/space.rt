@@ -2,7 +2,7 @@
 
 ghost use Rattle.std.specs.Prelude.{◌≡◌, ◌≢◌, ◌+◌, ◌-◌, ◌<◌, ◌≤◌, ◌↔◌, ℕ, suc, true, Some, None, is_some, Err, IsTrue, IfOk, IfErr, OnErr, length};
 ghost use Rattle.rd_ring.specs.Prelude.{MOST_CELLS, root, content_at, can_hold, operand, operate, restore, segment_holding, everywhere, Operates, Makes, RefusesMaking};
-ghost use Rattle.rd_cell.specs.Operations.{suits};
+ghost use Rattle.rd_cell.specs.Operations.{keeps_limits};
 ghost use Rattle.rd_segments.specs.Room.{room_used, KeepsMakersRoom, UsesMakersRoom, ReturnsMakersRoom, AddsMakersRoom};
 ghost use Rattle.rd_segments.specs.SpaceFields.{fresh_space};
 ghost use Rattle.rd_segments.specs.Lists.{AreFreshLists};
@@ -138,7 +138,7 @@ impl<const R: usize> Space<R> {
         self.qtail
     }
 
-    /// Returns the words of the array.
+    /// Returns a copy of the array: its two counters and its slots.
     pub fn array(&self) -> ArrayParts
         ensures { result ≡ array_words self.now }
     {
@@ -181,7 +181,7 @@ impl<const R: usize> Space<R> {
     /// the operation is for another kind of content. No actor asks for either. The space is then
     /// as before.
     pub fn operate(&mut self, place: Place, operation: Operation) -> Result<Done, Refusal>
-        requires { IsTrue (suits place operation) }
+        requires { IsTrue (keeps_limits place operation) }
         ensures ok { IfOk result (λ done. Operates everywhere place operation done
             (contents self.old) (contents self.new)) }
         ensures err { IfErr result (λ e. operate place operation (operand (contents self.old) place)

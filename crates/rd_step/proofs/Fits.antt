@@ -1,6 +1,6 @@
 -- Which accesses and answers fit. An actor whose record fits asks for an access that fits.
 use Rattle.rd_step.proofs.Prelude.{nat_lt, ◌≡◌, ℕ, Bool, true, ◌&&◌, nat_le, arith, Option, Some, IfOk, and_parts, SLOTS, COUNTER_END, SegName, Place, Access, NoPlace, At, Make, Answer, Operation, AddArray, CasName, CasNext, Cas2, Act, Actor, Pc, need, need_at, words_fit, Presence, names_fit, numbers_within, record_fits, actor_fits, index_end, subst, World, IsWellFormed, is_there}
-use Rattle.rd_cell.specs.Operations.{suits}
+use Rattle.rd_cell.specs.Operations.{keeps_limits}
 use Rattle.rd_cell.specs.declared.contents.Content.TheVariants as content
 use Rattle.rd_cell.specs.declared.operations.Answer.TheVariants as answer
 
@@ -56,9 +56,9 @@ new_fits R there (CasNext new) = there new
 new_fits R there (Cas2 old new) = nat_le new.idx (index_end R)
 new_fits R there _ = true
 
--- whether an operation suits its place, and what it would write there fits
+-- whether an operation keeps the limits of its place, and what it would write there fits
 abbrev pub op_fits : ℕ → Presence → Place → Operation → Bool
-op_fits R there p op = suits p op && new_fits R there op
+op_fits R there p op = keeps_limits p op && new_fits R there op
 
 -- whether an access fits: its operation does; true if it has none
 abbrev pub access_fits : ℕ → Presence → Access → Bool

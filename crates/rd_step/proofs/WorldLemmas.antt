@@ -4,7 +4,7 @@ use Rattle.rd_actor.proofs.Representable.{representable}
 use Rattle.rd_step.specs.declared.worlds.World.{World as CodeWorld}
 use Rattle.rd_step.proofs.Actors.{numbered-set, numbered-within}
 use Rattle.rd_step.proofs.Fits.{record_fits-names_and_numbers, record_fits-words, access_fits, need_fits, record_fits-well_formed}
-use Rattle.rd_cell.specs.Access.{access_suits}
+use Rattle.rd_cell.specs.Access.{access_keeps_limits}
 use Rattle.rd_cell.specs.declared.places.Place.TheVariants as place
 use Rattle.rd_cell.specs.declared.places.Wrote.TheVariants as wrote
 use Rattle.rd_cell.specs.declared.operations.Answer.TheVariants as answer
@@ -102,12 +102,12 @@ few_made space xs n formed =
       | inr few ↦ few
     ]
 
-access_suited : (R : ℕ) (there : Presence) (x : Access) → access_fits R there x ≡ true → access_suits x ≡ true
+access_suited : (R : ℕ) (there : Presence) (x : Access) → access_fits R there x ≡ true → access_keeps_limits x ≡ true
 access_suited R there x h = grind arith
 
 -- the operation for which an actor that is there asks suits its place
 need_suits : (R : ℕ) (space : Space R) (xs : List Actor) (e : Event) (a : Actor) (x : Access) → IsWellFormed (world_of_fields space xs)
-    → numbered xs e.actor ≡ Some a → need R a e.act ≡ Ok x → access_suits x ≡ true
+    → numbered xs e.actor ≡ Some a → need R a e.act ≡ Ok x → access_keeps_limits x ≡ true
 need_suits R space xs e a x formed has needs =
     let there = is_there (contents space) in
     let fits = record_fits-well_formed (world_of_fields space xs) e.actor a formed has in
@@ -130,7 +130,7 @@ needs_by {R} self e a r has by = sym (by (representable_here R self.space self.a
 
 -- an actor's access meets the requirements of `perform`
 pub may_perform : {R : ℕ} (self : CodeWorld R) (e : Event) (a : Actor) (x : Access) → numbered self.actors.items e.actor ≡ Some a → need R a e.act ≡ Ok x
-    → (R ≤ MOST_CELLS) × ((e.actor < list_count self.space) × ((making_count self.space e.actor ≤ MOST_SEGMENTS) × IsTrue (access_suits x)))
+    → (R ≤ MOST_CELLS) × ((e.actor < list_count self.space) × ((making_count self.space e.actor ≤ MOST_SEGMENTS) × IsTrue (access_keeps_limits x)))
 may_perform {R} self e a x has needs = (
   self.small,
   (

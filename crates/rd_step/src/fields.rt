@@ -7,7 +7,7 @@ ghost use Rattle.rd_segments.specs.Room.{room_returned, UsesMakersRoom, ReturnsM
 ghost use Rattle.rd_segments.specs.Space.{contents, list_capacity, list_count, making_count, room, makers_room};
 ghost use Rattle.rd_step.specs.Step.{with_actor};
 ghost use Rattle.rd_step.specs.Undo.{CanPutBack};
-ghost use Rattle.rd_cell.specs.Access.{access_suits};
+ghost use Rattle.rd_cell.specs.Access.{access_keeps_limits};
 ghost use Rattle.rd_step.specs.Lists.{numbered};
 ghost use Rattle.rd_step.specs.Room.{is_make, IsRefused};
 
@@ -16,32 +16,9 @@ use rd_actor::Actor;
 use rd_cell::{Access, Content, Done, Place, Refusal};
 use rd_segments::Space;
 
-/// Puts the old content back at a place, if one is given. The place must be there, the content must
-/// be of its kind, and a counter at most its end. A place without an old content must be the whole
-/// of an actor's last segment, which is removed and so gives its room back. Without a place there
-/// must be no content, and nothing changes.
-pub fn put_back<const R: usize>(
-    space: &mut Space<R>,
-    place: Option<Place>,
-    content: Option<Content>,
-)
-    requires can { CanPutBack (contents space.old) place content }
-    requires small { R ≤ MOST_CELLS }
-    ensures done { contents space.new ≡ restore place content (contents space.old) }
-    ensures room { ReturnsMakersRoom (room_returned place content) (makers_room space.old)
-        (makers_room space.new) }
-    ensures capacity { list_capacity space.new ≡ list_capacity space.old }
-{
-    match (place, content) {
-        (Some(place), Some(content)) => space.restore(place, content),
-        (Some(place), None) => unmake_at(space, place),
-        _ => {}
-    }
-}
-
 /// Removes the segment whose whole is this place, and so gives its room back. The place must be the
 /// whole of an actor's last segment.
-fn unmake_at<const R: usize>(space: &mut Space<R>, place: Place)
+pub fn unmake_at<const R: usize>(space: &mut Space<R>, place: Place)
     requires can { CanPutBack (contents space.old) (Some place) None }
     requires small { R ≤ MOST_CELLS }
     ensures done { contents space.new ≡ restore (Some place) None (contents space.old) }
@@ -87,7 +64,7 @@ pub fn perform<const R: usize>(
     requires small { R ≤ MOST_CELLS }
     requires maker_there { actor < list_count space.old }
     requires counted { making_count space.old actor ≤ MOST_SEGMENTS }
-    requires access_suits { IsTrue (access_suits access) }
+    requires access_keeps_limits { IsTrue (access_keeps_limits access) }
     ensures ok { IfOk result (λ done. HasEffect everywhere
         (perform R actor (contents space.old) access) done (contents space.old)
         (contents space.new)) }

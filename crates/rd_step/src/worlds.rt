@@ -16,7 +16,7 @@ ghost use Rattle.rd_step.specs.World.{World as Model};
 ghost use Rattle.rd_step.specs.Parts.{world_of_parts, first_flaw, RefusesParts};
 
 use super::entries::{Entry, Event};
-use super::fields::{actor_in, perform, put_back, set_actor};
+use super::fields::{actor_in, perform, set_actor, unmake_at};
 use super::flaws::Unassembled;
 use super::parts::Parts;
 use rd_actor::{Actor, after, need};
@@ -292,8 +292,12 @@ impl<const R: usize> World<R> {
             (makers_room self.new) }
         ensures capacities { capacities self.new ≡ capacities self.old }
     {
-        put_back(&mut self.space, place, content);
         set_actor(&mut self.actors, actor, words);
+        match (place, content) {
+            (Some(place), Some(content)) => self.space.restore(place, content),
+            (Some(place), None) => unmake_at(&mut self.space, place),
+            _ => {}
+        }
     }
 
     /// Gives an actor, which must be there, room for this many more segments; making them then
