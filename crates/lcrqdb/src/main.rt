@@ -11,7 +11,7 @@
 #![tactic(auto)]
 
 use rd_command_line::{command_line_words, run_command_line};
-use rd_script::{ReadSource, WriteSink};
+use rd_devices::{ReadSource, WriteSink};
 use std::process::ExitCode;
 
 /// Does what the command line asks for, and returns the exit status.

@@ -5,10 +5,10 @@ use Rattle.std.specs.Global.{Global}
 use Rattle.std.specs.Result.{IsErrAnd}
 use Rattle.clap.specs.Walk.{Text}
 use Rattle.rd_marks.specs.BookState.{BookState}
-use Rattle.rd_script.specs.AnyBook.{IsBookIn}
-use Rattle.rd_script.specs.declared.any_book.AnyBook.{AnyBook}
-use Rattle.rd_script.specs.Streams.{IsUnused, Stream}
-use Rattle.rd_script.proofs.ResultLemmas.{passed_up}
+use Rattle.rd_marks.specs.AnyBook.{IsBookIn}
+use Rattle.rd_marks.specs.declared.any_book.AnyBook.{AnyBook}
+use Rattle.rd_devices.specs.Streams.{IsUnused, Stream}
+use Rattle.rd_devices.proofs.ResultLemmas.{passed_up}
 use Rattle.rd_program.specs.declared.faults.ProgramFault.{ProgramFault}
 use Rattle.rd_program.specs.declared.faults.ProgramFault.TheVariants as program
 use Rattle.rd_program.specs.declared.setups.Left.{Left}

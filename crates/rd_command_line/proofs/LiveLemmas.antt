@@ -6,10 +6,10 @@ use Rattle.std.proofs.lemmas.List.{length-map}
 use Rattle.rd_marks.specs.BookState.{BookState}
 use Rattle.rd_desk.specs.declared.histories.Call.{Call}
 use Rattle.rd_desk.specs.Histories.{entries}
-use Rattle.rd_script.specs.declared.devices.sources.Source.{Ghosts as SourceOf}
-use Rattle.rd_script.specs.declared.devices.sinks.Sink.{Ghosts as SinkOf}
-use Rattle.rd_script.specs.declared.faults.ScriptFault.{ScriptFault}
-use Rattle.rd_script.specs.Streams.{Stream}
+use Rattle.rd_devices.specs.declared.sources.Source.{Ghosts as SourceOf}
+use Rattle.rd_devices.specs.declared.sinks.Sink.{Ghosts as SinkOf}
+use Rattle.rd_devices.specs.declared.faults.ScriptFault.{ScriptFault}
+use Rattle.rd_devices.specs.Streams.{Stream}
 use Rattle.rd_view.specs.declared.live.ViewerEnd.{ViewerEnd}
 use Rattle.rd_view.specs.declared.live.ViewerEnd.TheVariants.{Ended, Stopped, NotStarted}
 use Rattle.rd_view.specs.declared.faults.ViewFault.TheVariants as view

@@ -9,12 +9,12 @@ use Rattle.clap.specs.Walk.{Text}
 use Rattle.rd_journal.specs.Journal.{Journal}
 use Rattle.rd_marks.specs.BookState.{BookState}
 use Rattle.rd_desk.specs.Histories.{entries}
-use Rattle.rd_script.specs.declared.devices.sources.ReadSource.{ReadSource}
-use Rattle.rd_script.specs.declared.devices.sinks.WriteSink.{WriteSink}
-use Rattle.rd_script.specs.Streams.{Devices, IsUnused, Stream, reader_source, writer_sink}
-use Rattle.rd_script.specs.Ring.{ring_length}
-use Rattle.rd_script.specs.AnyBook.{any_journal, any_state, fresh_state}
-use Rattle.rd_script.specs.declared.any_book.AnyBook.{AnyBook}
+use Rattle.rd_devices.specs.declared.sources.ReadSource.{ReadSource}
+use Rattle.rd_devices.specs.declared.sinks.WriteSink.{WriteSink}
+use Rattle.rd_devices.specs.Streams.{Devices, IsUnused, Stream, reader_source, writer_sink}
+use Rattle.rd_marks.specs.Ring.{ring_length}
+use Rattle.rd_marks.specs.AnyBook.{any_journal, any_state, fresh_state}
+use Rattle.rd_marks.specs.declared.any_book.AnyBook.{AnyBook}
 use Rattle.rd_program.specs.declared.faults.ProgramFault.{ProgramFault}
 use Rattle.rd_program.specs.declared.faults.ProgramFault.TheVariants as program
 use Rattle.rd_program.specs.Program.{IsReadOrNoMemory, LoadsBook, PlaysOver, AreUnused}

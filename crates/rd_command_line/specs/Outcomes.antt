@@ -1,7 +1,7 @@
 -- The outcome of a command line, and how the program ends after each.
 use Rattle.std.specs.Prelude.{◌≡◌, ◌⊎◌, ℕ, Bool, true, false, codes, string_bytes, Result, Ok, Err, String}
 use Rattle.std.specs.Global.{Global}
-use Rattle.rd_script.specs.Streams.{GetsNothing, Stream}
+use Rattle.rd_devices.specs.Streams.{GetsNothing, Stream}
 use Rattle.rd_program.specs.declared.faults.ProgramFault.{ProgramFault}
 use Rattle.rd_program.specs.declared.faults.ProgramFault.TheVariants as program
 use Rattle.rd_program.specs.declared.setups.Done.{Done}

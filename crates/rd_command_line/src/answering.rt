@@ -4,22 +4,23 @@
 ghost use Rattle.std.specs.Prelude.{◌≡◌, ◌≤◌, IfOk, IfErr, List, length, map, vec_len, true, false};
 ghost use Rattle.std.specs.Process.{exit_status};
 ghost use Rattle.rd_desk.specs.declared.desks.TheConstants.{MOST_VIEWERS};
-ghost use Rattle.rd_script.specs.Streams.{devices, sink_stream};
-ghost use Rattle.rd_script.specs.Ring.{ring_length};
-ghost use Rattle.rd_script.specs.AnyBook.{any_journal, any_state, fresh_state};
+ghost use Rattle.rd_devices.specs.Streams.{devices, sink_stream};
+ghost use Rattle.rd_marks.specs.Ring.{ring_length};
+ghost use Rattle.rd_marks.specs.AnyBook.{fresh_state};
 ghost use Rattle.rd_program.specs.Program.{IsReadOrNoMemory};
 ghost use Rattle.rd_options.specs.Options.{AreInRange};
 ghost use Rattle.rd_command_line.specs.Outcomes.{is_shown};
-ghost use Rattle.rd_command_line.specs.Answering.{AreWholeTexts, FollowsWords, FollowsOptions, FollowsWordsOrFault, LoadsFile, OpensBook, OpensScript, ResumesFile, RunsCommandLine, RunsFile, PlaysFileOrInput, ViewsFiles, ViewsFilesLive, counted, lived, recorded};
+ghost use Rattle.rd_command_line.specs.Answering.{AreWholeTexts, FollowsOptions, FollowsWordsOrFault, LoadsFile, OpensBook, OpensScript, ResumesFile, RunsCommandLine, RunsFile, ViewsFiles, ViewsFilesLive, counted, lived, recorded};
 
 use super::outcomes::{Outcome, show_outcome};
 use super::terminals::file_terminals;
+use rd_devices::{ReadSource, Sink, Source};
+use rd_marks::AnyBook;
 use rd_options::{Options, OptionsFault, options};
 use rd_program::{
     Done, Left, ProgramFault, Setup, ViewExtras, fresh_book, load_book, play, read_whole_text,
     view_book, view_live,
 };
-use rd_script::{AnyBook, ReadSource, Sink, Source};
 use rd_view::ViewerEnd;
 use std::alloc::Global;
 use std::convert::AsStr;
@@ -58,13 +59,15 @@ where
         (devices I.Source O.Sink input.old input.new output.old output.new)
         (sink_stream E.Sink errors.old errors.new) }
 {
-    let outcome = follow_words_or_fault(rt, alloc, words, input, output);
+    let outcome = follow_words(rt, alloc, words, input, output);
     show_outcome(alloc, &outcome, output, errors)
 }
 
-/// Does what the words ask for, as `follow_words` does, and returns the outcome. If `words` is a
-/// fault, returns this fault, and uses neither stream. Neither may have failed before.
-fn follow_words_or_fault<R: Files + Threads + Wait + Sync, S: AsStr + Drop, I: Source, O: Sink>(
+/// Does what the words of a command line ask for, and returns the outcome. The first word is the
+/// program's name. If `words` is a fault, or the words give no options, the outcome is this fault or
+/// that of `options`, and neither stream is used. With `view` it waits for the viewers' threads.
+/// Neither stream may have failed before. If the outcome is `Shown`, the output has not failed.
+pub fn follow_words<R: Files + Threads + Wait + Sync, S: AsStr + Drop, I: Source, O: Sink>(
     rt: &R,
     alloc: Global,
     words: Result<Vec<S>, OptionsFault>,
@@ -81,30 +84,7 @@ where
     ensures shown { is_shown result ≡ true → O.has_failed output.new ≡ false }
 {
     let words = words?;
-    follow_words(rt, alloc, words.as_slice(), input, output)
-}
-
-/// Does what the words of a command line ask for, and returns the outcome. The first word is the
-/// program's name. If the words give no options, the outcome is the fault of `options`, and neither
-/// stream is used. With `view` it waits for the viewers' threads. Neither stream may have failed
-/// before. If the outcome is `Shown`, the output has not failed.
-pub fn follow_words<R: Files + Threads + Wait + Sync, S: AsStr, I: Source, O: Sink>(
-    rt: &R,
-    alloc: Global,
-    words: &[S],
-    input: &mut I,
-    output: &mut O,
-) -> Outcome
-where
-    R::File: Send,
-    R::Dir: Send,
-    requires input_works { I.has_failed input.old ≡ false }
-    requires output_works { O.has_failed output.old ≡ false }
-    ensures answers { FollowsWords R.File.remaining R.File.contents (map S.text words.now)
-        (devices I.Source O.Sink input.old input.new output.old output.new) result }
-    ensures shown { is_shown result ≡ true → O.has_failed output.new ≡ false }
-{
-    let asked = options(alloc, words)?;
+    let asked = options(alloc, words.as_slice())?;
     Ok(follow_options(rt, alloc, asked, input, output))
 }
 
@@ -207,7 +187,10 @@ fn run_file<R: Files, I: Source, O: Sink>(
 {
     let file = open_script(rt, name)?;
     let mut book = fresh_book(alloc, setup)?;
-    play_file_or_input(alloc, file, input, output, &mut book, trace)
+    match file {
+        None => play(alloc, input, output, &mut book, trace),
+        Some(file) => play(alloc, &mut ReadSource::new(file), output, &mut book, trace),
+    }
 }
 
 /// Opens the script of this name: no file if the name is `-`, which stands for the input. Fails
@@ -218,29 +201,6 @@ fn open_script<R: Files>(rt: &R, name: &str) -> Result<Option<R::File>, ProgramF
     match name {
         "-" => Ok(None),
         _ => Ok(Some(open_file(rt, name)?)),
-    }
-}
-
-/// Runs over a book the script in this file, without using the input, or the one on the input if
-/// there is no file. Writes to the output and returns what `play` does, with the same faults.
-/// Neither stream may have failed before.
-fn play_file_or_input<F: Read + Drop, I: Source, O: Sink>(
-    alloc: Global,
-    file: Option<F>,
-    input: &mut I,
-    output: &mut O,
-    book: &mut AnyBook,
-    trace: bool,
-) -> Result<u64, ProgramFault>
-    requires input_works { I.has_failed input.old ≡ false }
-    requires output_works { O.has_failed output.old ≡ false }
-    ensures { PlaysFileOrInput F.remaining file (any_state book.old) (any_state book.new)
-        (any_journal book.new) trace
-        (devices I.Source O.Sink input.old input.new output.old output.new) result }
-{
-    match file {
-        None => play(alloc, input, output, book, trace),
-        Some(file) => play(alloc, &mut ReadSource::new(file), output, book, trace),
     }
 }
 
@@ -329,7 +289,7 @@ where
         (sink_stream O.Sink output.old output.new) result }
 {
     let book = opened_book(rt, alloc, start, setup)?;
-    let Ok(terminals) = file_terminals(alloc, rt, names) else {
+    let Ok(terminals) = file_terminals(rt, alloc, names) else {
         return Err(ProgramFault::NoMemory);
     };
     view_live(rt, alloc, terminals, output, book, extras)

@@ -2,13 +2,13 @@
 
 ghost use Rattle.std.specs.Prelude.{◌≡◌, false, true, Err};
 ghost use Rattle.std.specs.Process.{exit_status};
-ghost use Rattle.rd_script.specs.Streams.{sink_stream};
+ghost use Rattle.rd_devices.specs.Streams.{sink_stream};
 ghost use Rattle.rd_program.specs.Endings.{TakesUnlessFailed};
 ghost use Rattle.rd_command_line.specs.Outcomes.{Ends, is_shown};
 
+use rd_devices::{Sink, write_all};
 use rd_options::OptionsFault;
 use rd_program::{Done, ProgramFault};
-use rd_script::{Sink, write_all};
 use std::alloc::Global;
 use std::process::ExitCode;
 

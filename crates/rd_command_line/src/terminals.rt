@@ -5,57 +5,58 @@ ghost use Rattle.std.specs.Prelude.{◌≡◌, IfOk, length, map, string_bytes};
 ghost use Rattle.rd_options.specs.Options.{replies_name};
 ghost use Rattle.rd_command_line.specs.Answering.{OpensFiles};
 
+use rd_devices::{ReadSource, ScriptFault, WriteSink};
 use rd_options::REPLIES_ENDING;
-use rd_script::{ReadSource, ScriptFault, WriteSink};
 use rd_view::Terminal;
 use std::alloc::{AllocError, Global};
 use std::fs::{self, Files, OpenOptions};
 
 /// The file that a viewer reads, and the file that its replies go to; neither is open.
 #[derive(Drop)]
-pub struct FileTerminal<'a, F> {
+pub struct FileTerminal<'a, R> {
     /// What opens files.
-    files: &'a F,
+    rt: &'a R,
     /// The name of the file that is read.
     name: &'a str,
     /// The name of the file of the replies.
     replies: String,
 }
 
-impl<'a, F: Files> Terminal for FileTerminal<'a, F>
+impl<'a, R: Files> Terminal for FileTerminal<'a, R>
 where
-    F::File: Send,
-    F::Dir: Send,
+    R::File: Send,
+    R::Dir: Send,
 {
-    type Reader = ReadSource<F::File>;
+    type Reader = ReadSource<R::File>;
 
-    type Writer = WriteSink<F::File>;
+    type Writer = WriteSink<R::File>;
 
-    ghost opens = { λ _ reader writer. OpensFiles F.File.remaining F.File.contents reader writer };
+    ghost opens = { λ _ reader writer. OpensFiles R.File.remaining R.File.contents reader writer };
 
     /// Opens the file that is read, then the file of the replies, to append to it; that one is made
     /// if it isn't there. Fails with `Read` if the first can't be opened, with `Write` if the
     /// second can't be.
-    fn open(self) -> Result<(ReadSource<F::File>, WriteSink<F::File>), ScriptFault> {
-        let Ok(reader) = fs::open(self.files, self.name) else {
+    fn open(self) -> Result<(ReadSource<R::File>, WriteSink<R::File>), ScriptFault> {
+        let Ok(reader) = fs::open(self.rt, self.name) else {
             return Err(ScriptFault::Read);
         };
         let mut how = OpenOptions::new();
         how.append(true).create(true);
-        match how.open(self.files, self.replies.as_str()) {
+        match how.open(self.rt, self.replies.as_str()) {
             Ok(writer) => Ok((ReadSource::new(reader), WriteSink::new(writer))),
             Err(_) => Err(ScriptFault::Write),
         }
     }
 }
 
-/// Returns the terminals of viewers that read the files of these names, in order. Fails only if
-/// memory is refused.
-pub(crate) fn file_terminals<'a, F: Files>(
+/// Returns a terminal for each viewer, in order: it reads the file of this name, and appends its
+/// replies to that name with `.replies` behind it. No file is opened here. Fails only if memory is
+/// refused.
+pub(crate) fn file_terminals<'a, R: Files>(
+    rt: &'a R,
     alloc: Global,
-    files: &'a F,
     names: &[&'a str],
-) -> Result<Vec<FileTerminal<'a, F>>, AllocError>
+) -> Result<Vec<FileTerminal<'a, R>>, AllocError>
     ensures count { IfOk result (λ terminals. length terminals.items ≡ length names.now) }
     ensures names { IfOk result (λ terminals. map (λ terminal. terminal.name.now) terminals.items
         ≡ map (λ name. name.now) names.now) }
@@ -66,11 +67,7 @@ pub(crate) fn file_terminals<'a, F: Files>(
     for name in names {
         let mut replies = String::from_str(alloc, name)?;
         replies.push_str(REPLIES_ENDING)?;
-        terminals.push(FileTerminal {
-            files,
-            name,
-            replies,
-        })?;
+        terminals.push(FileTerminal { rt, name, replies })?;
     }
     Ok(terminals)
 }

@@ -27,19 +27,19 @@ entries history = history.entries.items
 abbrev pub viewer_entry : ℕ → Command → Result Reply Refusal → ℕ × Call
 viewer_entry viewer command answer = (viewer, record { command = command; answer = answer })
 
--- the headline holds between a book in state b and one in state `last` that keeps `kept`, for the
--- commands of these entries and the answers that they record
-abbrev pub EntriesLeadTo : BookState → List (ℕ × Call) → BookState → Journal → Type 0
-EntriesLeadTo b es last kept = Headline b (map (λ e. e.1.command) es) (map (λ e. e.1.answer) es) last kept
+-- from a book in state b, the commands of these calls get the answers that the calls record, and
+-- lead to the state `last`; the book then keeps the journal `kept`
+abbrev pub CallsLeadTo : BookState → List (ℕ × Call) → BookState → Journal → Type 0
+CallsLeadTo b calls last kept = Headline b (map (λ call. call.1.command) calls) (map (λ call. call.1.answer) calls) last kept
 
--- the entries are a legal history of a book in state b: they lead to some state (the bars mean that
+-- the calls are a legal history of a book in state b: they lead to some state (the bars mean that
 -- it exists, but not which it is)
 abbrev pub IsLegal : BookState → List (ℕ × Call) → Type 0
-IsLegal b es = ∥ ((last : BookState) × (kept : Journal) × EntriesLeadTo b es last kept) ∥₁
+IsLegal b es = ∥ ((last : BookState) × (kept : Journal) × CallsLeadTo b es last kept) ∥₁
 
--- the entries are a legal history of a book in state b, and lead to just this book
+-- the calls are a legal history of a book in state b, and lead to just this book
 abbrev pub IsLeftBy : {R : ℕ} → BookState → List (ℕ × Call) → Book R → Type 0
-IsLeftBy b es book = ∥ EntriesLeadTo b es (book_state book) (journal (session_of book)) ∥₁
+IsLeftBy b es book = ∥ CallsLeadTo b es (book_state book) (journal (session_of book)) ∥₁
 
 -- a desk's list may have room for this many calls: for none at first, then for 4, and for twice as
 -- many each time that it grows (the bars mean that there is such a case, but not which)

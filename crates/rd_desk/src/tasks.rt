@@ -76,8 +76,8 @@ pub fn run_tasks<R: Threads + Wait + Sync, T: Task + Send + Drop>(
     Ok(run_in_scope(rt, tasks, started, ends))
 }
 
-/// Does each task in its own thread of one scope, and returns what came of each. The tasks must be
-/// ones that can be done. Both lists must be empty and have room for each task.
+/// Does each task in its own thread of one scope, and returns, in order, what came of each. The
+/// tasks must be ones that can be done. `started` and `ends` must be empty and have room for each.
 fn run_in_scope<R: Threads + Wait + Sync, T: Task + Send + Drop>(
     rt: &R,
     tasks: Vec<T>,

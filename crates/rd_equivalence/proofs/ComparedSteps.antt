@@ -1,5 +1,5 @@
 -- What the code keeps while it compares two runs is right after one more step.
-use Rattle.rd_equivalence.proofs.Prelude.{common_steps, slice_get_past, and_from, and_parts, map-append, reverse-append, option_to_list, set, is_nothing, slice_get-set_same, slice_get-set_other, Entry, Key, NumberedStep, Reached, is_value_written, key_eq, place_key, value_key, segment_key, key_eq-true, key_eq-sym, is_whole_segment, raised, with_step_under, IsInOrder, IsAfter, left_in, reached_or_nothing, with_first, list_at, items_of, ◌≡◌, ◌↔◌, ℕ, ◌<◌, ◌≤◌, Bool, true, false, not, ◌&&◌, if◌then◌else◌, cond, IsTrue, List, [], ◌∷◌, ◌++◌, length, map, reverse, Vec, Global, Option, Some, IsSome, MatchOption, refl, sym, ap, subst, ◌∙◌, arith}
+use Rattle.rd_equivalence.proofs.Prelude.{common_steps, slice_get_past, and_from, and_parts, map-append, reverse-append, option_to_list, set, is_nothing, slice_get-set_same, slice_get-set_other, Entry, Key, NumberedStep, Reached, is_value_written, key_eq, place_key, value_key, segment_key, key_eq-true, key_eq-sym, is_whole_segment, raised, with_step_under, IsInOrder, IsAfter, remaining_in, reached_or_nothing, with_first, list_at, items_of, ◌≡◌, ◌↔◌, ℕ, ◌<◌, ◌≤◌, Bool, true, false, not, ◌&&◌, if◌then◌else◌, cond, IsTrue, List, [], ◌∷◌, ◌++◌, length, map, reverse, Vec, Global, Option, Some, IsSome, MatchOption, refl, sym, ap, subst, ◌∙◌, arith}
 
 -- How far steps reached, under one key and under all
 
@@ -37,19 +37,19 @@ Lists = List (Vec NumberedStep Global)
 
 -- a step that is pushed is in front of those left of its actor
 pub pushed : (lists : Lists) (a : ℕ) (list : Vec NumberedStep Global) (p : NumberedStep) (n : ℕ) → a < length lists → list.items ≡ list_at lists a ++ p ∷ []
-    → left_in (set lists a list) n ≡ with_first (left_in lists) a (p.at, p.entry.now) n
+    → remaining_in (set lists a list) n ≡ with_first (remaining_in lists) a (p.at, p.entry.now) n
 pushed lists a list p n within h = grind (arith, slice_get-set_same, slice_get-set_other, map-append, reverse-append)
 
 -- a step that is popped was in front of those left of its actor
 popped : (lists : Lists) (a : ℕ) (list : Vec NumberedStep Global) (p : NumberedStep) (n : ℕ) → a < length lists → list_at lists a ≡ list.items ++ p ∷ []
-    → left_in lists n ≡ with_first (left_in (set lists a list)) a (p.at, p.entry.now) n
+    → remaining_in lists n ≡ with_first (remaining_in (set lists a list)) a (p.at, p.entry.now) n
 popped lists a list p n within h = grind (arith, slice_get-set_same, slice_get-set_other, map-append, reverse-append)
 
 -- what is popped is in front of those left of the actor, or none is left
 pub popped_or_none : (lists : Lists) (a : ℕ) (list : Vec NumberedStep Global) (o : Option NumberedStep) → a < length lists → list_at lists a ≡ list.items ++ option_to_list o
     → (0 < length (list_at lists a) → IsSome o)
-    → MatchOption o (left_in lists a ≡ []) (λ p. (n : ℕ) → left_in lists n ≡ with_first (left_in (set lists a list)) a (p.at, p.entry.now) n)
+    → MatchOption o (remaining_in lists a ≡ []) (λ p. (n : ℕ) → remaining_in lists n ≡ with_first (remaining_in (set lists a list)) a (p.at, p.entry.now) n)
 popped_or_none lists a list o within items some = grind (arith, common_steps, popped)
 
-pub none_left_past_end : (lists : Lists) (n : ℕ) → length lists ≤ n → left_in lists n ≡ []
+pub none_left_past_end : (lists : Lists) (n : ℕ) → length lists ≤ n → remaining_in lists n ≡ []
 none_left_past_end lists n h = ap (λ (o : Option (Vec NumberedStep Global)). reverse (map (λ (p : NumberedStep). (p.at, p.entry.now)) (items_of o))) (slice_get_past lists n h)

@@ -29,6 +29,7 @@ after-before s t x y i j m h k touched = grind arith
 after-later : (s t : Key → Reached) (x y : Entry) (i j : ℕ) → Passes s x i t → IsAfterAll s y j → i < j → IsAfterAll t y j
 after-later s t x y i j m h later k touched = grind arith
 
+-- a step apart from x is held up by nothing that x did: under a key that both touched, neither wrote
 after-apart : (s t : Key → Reached) (x y : Entry) (i j : ℕ) → Passes s x i t → IsAfterAll s y j → AreApart x y → IsAfterAll t y j
 after-apart s t x y i j m h apart k touched = grind arith
 

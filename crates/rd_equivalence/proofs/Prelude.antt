@@ -13,7 +13,7 @@ pub use Rattle.rd_step.proofs.Symmetry.{depends_symmetric}
 pub use Rattle.rd_step.specs.declared.entries.Entry.{Entry}
 pub use Rattle.rd_step.specs.declared.entries.Event.{Event}
 pub use Rattle.rd_equivalence.specs.Beginnings.{Begins, NeitherBegins}
-pub use Rattle.rd_equivalence.specs.ComparedSteps.{IsUnmatched, steps_by_actor, by_actor, left_in, left_of, reached_of, reached_or_nothing, with_first}
+pub use Rattle.rd_equivalence.specs.ComparedSteps.{IsUnmatched, steps_by_actor, by_actor, remaining_in, remaining_steps, reached_of, reached_or_nothing, with_first}
 pub use Rattle.rd_equivalence.specs.Equivalence.{DecidesEquivalence}
 unfoldable pub use Rattle.rd_equivalence.specs.KeepingOrder.{with_step}
 pub use Rattle.rd_equivalence.specs.KeepingOrder.{AreAlike, IsAfter, IsInOrder, KeepsOrder, Numbered, is_whole_segment, last_blocking, nothing_reached, raised, with_step_under, with_rest}

@@ -33,12 +33,12 @@ steps_by_actor entries n = by_actor n (enumerate_from 1 entries)
 
 -- the steps in the list of this number, which is an actor's, in the order of the run; none if there
 -- is no such list. The list has them in the reverse order
-abbrev pub left_in : List (Vec NumberedStep Global) → ℕ → List Numbered
-left_in lists n = reverse (map (λ p. (p.at, p.entry.now)) (list_at lists n))
+abbrev pub remaining_in : List (Vec NumberedStep Global) → ℕ → List Numbered
+remaining_in lists n = reverse (map (λ p. (p.at, p.entry.now)) (list_at lists n))
 
--- the steps that are left of each actor, in the order of the run
-abbrev pub left_of : StepsByActor → ℕ → List Numbered
-left_of steps = left_in steps.steps.items
+-- for each actor, its steps that are not yet compared, in the order of the run
+abbrev pub remaining_steps : StepsByActor → ℕ → List Numbered
+remaining_steps steps = remaining_in steps.steps.items
 
 -- the steps of each actor, with step p in front of those of actor n
 abbrev pub with_first : (ℕ → List Numbered) → ℕ → Numbered → ℕ → List Numbered

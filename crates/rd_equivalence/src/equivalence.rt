@@ -9,7 +9,7 @@ ghost use Rattle.rd_step.specs.Run.{events};
 ghost use Rattle.rd_equivalence.specs.Beginnings.{NeitherBegins};
 ghost use Rattle.rd_equivalence.specs.Equivalence.{DecidesEquivalence};
 ghost use Rattle.rd_equivalence.specs.KeepingOrder.{AreAlike};
-ghost use Rattle.rd_equivalence.specs.ComparedSteps.{IsMatched, IsUnmatched, left_of, reached_of};
+ghost use Rattle.rd_equivalence.specs.ComparedSteps.{IsMatched, IsUnmatched, remaining_steps, reached_of};
 
 use super::keeping_order::ReachedByKey;
 use super::steps_by_actor::StepsByActor;
@@ -31,13 +31,13 @@ pub fn are_equivalent(alloc: Global, a: &[Entry], b: &[Entry]) -> Result<bool, A
     ensures memory { OnErr result (NeitherBegins (events a.now) (events b.now)) }
 {
     let common = common_beginning_len(&a, &b);
-    rests_are_equivalent(alloc, &a[common..], &b[common..])
+    are_rests_equivalent(alloc, &a[common..], &b[common..])
 }
 
 /// Whether two runs from one start are causally equivalent, given their entries. It passes once
 /// over each list, and skips no common beginning. Fails only if memory is refused, and never if one
 /// of the lists is empty.
-fn rests_are_equivalent(alloc: Global, a: &[Entry], b: &[Entry]) -> Result<bool, AllocError>
+fn are_rests_equivalent(alloc: Global, a: &[Entry], b: &[Entry]) -> Result<bool, AllocError>
     ensures answer { IfOk result (DecidesEquivalence a.now b.now) }
     ensures memory { OnErr result ((1 ≤ length a.now) × (1 ≤ length b.now)) }
 {
@@ -68,10 +68,10 @@ fn match_next(
     entry: &Entry,
 ) -> Result<bool, AllocError>
     ensures same { IfOk result (λ ok. ok ≡ true
-        → IsMatched entry.now (reached_of reached.old) (reached_of reached.new) (left_of left.old)
-        (left_of left.new)) }
+        → IsMatched entry.now (reached_of reached.old) (reached_of reached.new) (remaining_steps left.old)
+        (remaining_steps left.new)) }
     ensures differs { IfOk result (λ ok. ok ≡ false
-        → IsUnmatched entry.now (reached_of reached.old) (left_of left.old)) }
+        → IsUnmatched entry.now (reached_of reached.old) (remaining_steps left.old)) }
 {
     let Some(other) = left.pop_front(entry.event.actor) else {
         return Ok(false);

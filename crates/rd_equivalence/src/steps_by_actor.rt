@@ -4,7 +4,7 @@
 //! those left of the second run.
 
 ghost use Rattle.std.specs.Prelude.{◌≡◌, ◌↔◌, [], ℕ, length, IsTrue, IfOk, OnOk, MatchOption};
-ghost use Rattle.rd_equivalence.specs.ComparedSteps.{steps_by_actor, left_of, with_first};
+ghost use Rattle.rd_equivalence.specs.ComparedSteps.{steps_by_actor, remaining_steps, with_first};
 ghost use Rattle.rd_depend.specs.Tables.{list_at};
 
 use rd_cell::limits::ACTOR_NUMBERS;
@@ -34,7 +34,7 @@ impl<'a> StepsByActor<'a> {
     ///
     /// `AllocError` if memory is refused.
     pub(crate) fn of(alloc: Global, entries: &'a [Entry]) -> Result<StepsByActor<'a>, AllocError>
-        ensures { IfOk result (λ steps. (n : ℕ) → left_of steps n
+        ensures { IfOk result (λ steps. (n : ℕ) → remaining_steps steps n
             ≡ steps_by_actor entries.entry.now n) }
     {
         let mut steps = StepsByActor {
@@ -54,8 +54,8 @@ impl<'a> StepsByActor<'a> {
     fn push_front(&mut self, at: usize, entry: &'a Entry) -> Result<(), AllocError>
         requires { length self.old.steps.items ≡ ACTOR_NUMBERS }
         ensures number { length self.new.steps.items ≡ ACTOR_NUMBERS }
-        ensures ok { OnOk result ((n : ℕ) → left_of self.new n
-            ≡ with_first (left_of self.old) entry.entry.now.event.actor (at, entry.entry.now) n) }
+        ensures ok { OnOk result ((n : ℕ) → remaining_steps self.new n
+            ≡ with_first (remaining_steps self.old) entry.entry.now.event.actor (at, entry.entry.now) n) }
     {
         self.steps[usize::from(entry.event.actor)].push(NumberedStep { at, entry })?;
         Ok(())
@@ -63,9 +63,9 @@ impl<'a> StepsByActor<'a> {
 
     /// Removes and returns the first step that is left of the actor; `None` if none is left.
     pub(crate) fn pop_front(&mut self, actor: u8) -> Option<NumberedStep<'a>>
-        ensures { MatchOption result (left_of self.old actor ≡ [])
-            (λ p. (n : ℕ) → left_of self.old n
-            ≡ with_first (left_of self.new) actor (p.at, p.entry.now) n) }
+        ensures { MatchOption result (remaining_steps self.old actor ≡ [])
+            (λ p. (n : ℕ) → remaining_steps self.old n
+            ≡ with_first (remaining_steps self.new) actor (p.at, p.entry.now) n) }
     {
         match self.steps.get_mut(usize::from(actor)) {
             None => None,
@@ -75,7 +75,7 @@ impl<'a> StepsByActor<'a> {
 
     /// Whether no step is left.
     pub(crate) fn is_empty(&self) -> bool
-        ensures { IsTrue result ↔ ((n : ℕ) → left_of self.now n ≡ []) }
+        ensures { IsTrue result ↔ ((n : ℕ) → remaining_steps self.now n ≡ []) }
     {
         for steps in &self.steps {
             if !steps.is_empty() {

@@ -2,7 +2,7 @@
 -- that begin the events of some bookmark.
 use Rattle.rd_marks.proofs.Prelude.{◌≡◌, ℕ, zero, suc, ◌+◌, ◌-◌, ◌<◌, ◌≤◌, inl, inr, refl, sym, ap, ◌∙◌, subst, List, [], ◌∷◌, ◌++◌, length, take, map, sum_by, Contains, length-append, length-take, arith, range_with_len, take-length, cases_lt, cases_eq, nat_tests, get_or-map, length-map, length-take-le, take-map, take-take, sum_by-cons, Contains-append_left, Contains-append_right, Contains-append_cases, Event, Entry, Begins, MarkName, Stretch, Node, marks_of, named_entries, stretch_list, shared_at, entries_at, AreNested, AreFresh, node_len_in_stretch, greatest_len_in_stretch, AreNeeded, AgreesFor, IsDeepest, entry_count, events}
 use Rattle.std.proofs.lemmas.List.FromFn.{length-map-range_with_len, get_or-map-range_with_len}
-use Rattle.rd_marks.specs.Beginnings.{IsBeginning, AreDistinct, CountsBeginnings, NeedsNoEntry}
+use Rattle.rd_marks.specs.Prefixes.{IsPrefixOfSomeMark, AreDistinct, CountsPrefixes, NeedsNoEntry}
 use Rattle.rd_marks.proofs.MarkLemmas.{mark_of}
 use Rattle.rd_marks.proofs.Starting.{begins_shorter, event_length, events_of_first}
 use Rattle.rd_marks.proofs.StretchLists.{own_at, list_past, shared_past, shared_within, total, begins_shared}
@@ -84,9 +84,9 @@ begun_taken : (es : List Event) (xs ys : List Entry) → take (length es) xs ≡
 begun_taken es xs ys same b = grind (arith, take-map)
 
 -- what begins the events of a bookmark begins the events of some stretch's list
-begins_list : (ss : List Stretch) (ms : List (MarkName × Node)) (es : List Event) → IsBeginning (marks_of (named_entries ss ms)) es → (i : ℕ) × Begins es (events (stretch_list ss i))
+begins_list : (ss : List Stretch) (ms : List (MarkName × Node)) (es : List Event) → IsPrefixOfSomeMark (marks_of (named_entries ss ms)) es → (i : ℕ) × Begins es (events (stretch_list ss i))
 begins_list ss ms es h =
-    let found = mapped_contains (λ (x : MarkName × List Entry). mark_of x) (named_entries ss ms) h.mark h.kept in
+    let found = mapped_contains (λ (x : MarkName × List Entry). mark_of x) (named_entries ss ms) h.mark h.among in
     let named = mapped_contains (λ (x : MarkName × Node). (x.0, entries_at ss x.1)) ms found.0 found.1 in
     let p = named.0.1 in
     let xs = stretch_list ss p.stretch in
@@ -181,7 +181,7 @@ module _ (ss : List Stretch) (rule : AreNested ss) where
     pub begins_some_bookmark : (i n : ℕ) → i < length ss → n ≤ length (stretch_list ss i) → (m : MarkName × Node) × Contains ms m × (take n (entries_at ss m.1) ≡ take n (stretch_list ss i))
     begins_some_bookmark i n inside h = reached (length ss) i n (omega arith) inside h
 
-    pub counts : AreFresh ss → CountsBeginnings (marks_of (named_entries ss ms)) (entry_count ss)
+    pub counts : AreFresh ss → CountsPrefixes (marks_of (named_entries ss ms)) (entry_count ss)
     counts fresh = record {
       lists = lists_to ss (length ss);
       distinct = distinct_to fresh (length ss) (omega arith);
@@ -189,7 +189,7 @@ module _ (ss : List Stretch) (rule : AreNested ss) where
       counted = sym (lists_counted ss);
     }
       where
-        begins : (es : List Event) → Contains (lists_to ss (length ss)) es → IsBeginning (marks_of (named_entries ss ms)) es
+        begins : (es : List Event) → Contains (lists_to ss (length ss)) es → IsPrefixOfSomeMark (marks_of (named_entries ss ms)) es
         begins es c =
             let l = listed (length ss) es c in
             let r = begins_some_bookmark l.0 (length es) l.1 (begun_within ss l.0 es l.3) in
@@ -197,13 +197,13 @@ module _ (ss : List Stretch) (rule : AreNested ss) where
             record {
               some = omega (arith, l.2);
               mark = mark_of (m.0, entries_at ss m.1);
-              kept =
+              among =
                   contains_mapped (λ (x : MarkName × List Entry). mark_of x) (named_entries ss ms) (m.0, entries_at ss m.1)
                   (contains_mapped (λ (x : MarkName × Node). (x.0, entries_at ss x.1)) ms m r.1);
               begins = begun_taken es (stretch_list ss l.0) (entries_at ss m.1) (sym r.2) l.3;
             }
 
-        is_one : (es : List Event) → IsBeginning (marks_of (named_entries ss ms)) es → Contains (lists_to ss (length ss)) es
+        is_one : (es : List Event) → IsPrefixOfSomeMark (marks_of (named_entries ss ms)) es → Contains (lists_to ss (length ss)) es
         is_one es h =
             let b = begins_list ss ms es h in
             let l = owner b.0 es h.some b.1 in

@@ -11,7 +11,7 @@ use Rattle.rd_marks.specs.declared.commands.Command.{Command}
 use Rattle.rd_marks.specs.declared.commands.Command.TheVariants as command
 use Rattle.rd_marks.specs.declared.replies.Reply.{Reply}
 use Rattle.rd_marks.specs.declared.replies.Reply.TheVariants as reply
-use Rattle.rd_marks.specs.Beginnings.{NeedsNoEntry}
+use Rattle.rd_marks.specs.Prefixes.{NeedsNoEntry}
 use Rattle.rd_marks.specs.BookState.{BookState, with_session, events_by_name, mark, drop_mark, goto_mark, mark_at, GotoMakesSteps, AnswersSame}
 use Rattle.rd_cell.specs.declared.refusal.Refusal.TheVariants as refusal
 

@@ -1,13 +1,15 @@
 pub mod NameBytes
 pub mod Names
 pub mod BookState
-pub mod Beginnings
+pub mod Prefixes
 pub mod Stretches
 pub mod Changes
 pub mod BookmarksFields
 pub mod Bookmarks
 pub mod Rules
 pub mod Book
+pub mod Ring
+pub mod AnyBook
 pub mod Commands
 pub mod Headline
 pub mod Events

@@ -40,7 +40,7 @@ pub(crate) struct Bookmarks {
 }
 
 impl Bookmarks {
-    ghost use Rattle.rd_marks.specs.Beginnings.{CountsBeginnings, NeedsNoEntry};
+    ghost use Rattle.rd_marks.specs.Prefixes.{CountsPrefixes, NeedsNoEntry};
     ghost use Rattle.rd_marks.specs.Bookmarks.{named_entries_in, marks_of, stretches_in, here_entries};
     ghost use Rattle.rd_marks.specs.Stretches.{entries_at, entry_count, IsWithin};
     ghost use Rattle.rd_marks.specs.BookmarksFields.{AreRuns};
@@ -72,7 +72,7 @@ impl Bookmarks {
     /// each different list of events, except the empty one, that begins some bookmark's events.
     #[tactic(auto, using(crate::proofs::Counting::counts, crate::proofs::Putting::count_fits))]
     pub(crate) fn kept_entry_count(&self) -> usize
-        ensures counts { CountsBeginnings (marks_of (named_entries_in self.now)) result }
+        ensures counts { CountsPrefixes (marks_of (named_entries_in self.now)) result }
         ensures entries { result ≡ entry_count (stretches_in self.now) }
     {
         self.stretches.entry_count()

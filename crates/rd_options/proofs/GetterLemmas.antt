@@ -8,7 +8,7 @@ use Rattle.clap.specs.declared.parser.matches.ArgMatches.{ArgMatches}
 use Rattle.clap.proofs.WalkLemmas.{first_value-rows, raw_values-rows}
 use Rattle.rd_options.specs.declared.requests.Options.{Options}
 use Rattle.rd_options.specs.declared.requests.Options.TheVariants.{Run, View}
-use Rattle.rd_script.specs.declared.rings.Ring.{Ring}
+use Rattle.rd_marks.specs.declared.rings.Ring.{Ring}
 use Rattle.rd_options.specs.CommandLine.{GivesWorld, GivesStart, GivesFlag, GivesFileAndTrace, GivesRun, GivesView, GivesLoad}
 
 -- an option is not both none and something

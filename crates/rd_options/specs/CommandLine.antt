@@ -18,7 +18,7 @@ use Rattle.rd_options.specs.declared.requests.OptionsFault.{OptionsFault}
 use Rattle.rd_options.specs.declared.requests.OptionsFault.TheVariants.{Shown, Refused, TooManyFiles, SharedFile, NoMemory}
 use Rattle.rd_cell.specs.declared.limits.TheConstants.{MOST_ACTORS}
 use Rattle.rd_desk.specs.declared.desks.TheConstants.{MOST_VIEWERS}
-use Rattle.rd_script.specs.declared.rings.Ring.{Ring}
+use Rattle.rd_marks.specs.declared.rings.Ring.{Ring}
 use Rattle.rd_options.specs.Options.{SharesNoFile, file_count, ring_text, flag_text}
 
 -- a list of the names that an option's value may have, as clap is given it

@@ -8,8 +8,8 @@ use Rattle.clap.specs.declared.error.kind.ErrorKind.{ErrorKind}
 use Rattle.clap.specs.declared.error.kind.ErrorKind.TheVariants.{DisplayHelp, DisplayVersion, OutOfMemory}
 use Rattle.rd_cell.specs.declared.limits.TheConstants.{MOST_ACTORS}
 use Rattle.rd_desk.specs.declared.desks.TheConstants.{MOST_VIEWERS}
-use Rattle.rd_script.specs.declared.rings.Ring.{Ring}
-use Rattle.rd_script.specs.declared.rings.Ring.TheVariants.{Two, Four, Eight}
+use Rattle.rd_marks.specs.declared.rings.Ring.{Ring}
+use Rattle.rd_marks.specs.declared.rings.Ring.TheVariants.{Two, Four, Eight}
 use Rattle.rd_options.specs.declared.requests.Options.{Options}
 use Rattle.rd_options.specs.declared.requests.Options.TheVariants.{Run, View, Load}
 use Rattle.rd_options.specs.declared.requests.OptionsFault.{OptionsFault}

@@ -9,7 +9,7 @@ use super::names::are_apart;
 use clap::Error;
 use clap::error::ErrorKind;
 use rd_desk::MOST_VIEWERS;
-use rd_script::Ring;
+use rd_marks::Ring;
 use std::alloc::AllocError;
 
 /// What the command line asks for.

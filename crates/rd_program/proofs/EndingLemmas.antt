@@ -4,9 +4,9 @@ use Rattle.std.specs.Prelude.{OnOk, OnErr}
 use Rattle.std.specs.Io.KnownBytes.{Appends}
 use Rattle.std.proofs.KnownBytes.{Appends-trans}
 use Rattle.std.proofs.lemmas.List.{drop_more}
-use Rattle.rd_script.specs.declared.faults.ScriptFault.{ScriptFault}
-use Rattle.rd_script.specs.Device.{TakesBeginning}
-use Rattle.rd_script.specs.Streams.{Stream}
+use Rattle.rd_devices.specs.declared.faults.ScriptFault.{ScriptFault}
+use Rattle.rd_devices.specs.Device.{TakesBeginning}
+use Rattle.rd_devices.specs.Streams.{Stream}
 use Rattle.rd_view.specs.declared.live.ViewerEnd.{ViewerEnd}
 use Rattle.rd_program.specs.Endings.{TakesUnlessFailed, viewer_line, viewer_lines}
 

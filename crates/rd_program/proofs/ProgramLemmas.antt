@@ -2,7 +2,7 @@
 use Rattle.std.proofs.Common.{ℕ, Bool, List, Option, Result}
 use Rattle.rd_journal.specs.Journal.{Journal}
 use Rattle.rd_marks.specs.BookState.{BookState}
-use Rattle.rd_script.specs.Streams.{Devices}
+use Rattle.rd_devices.specs.Streams.{Devices}
 use Rattle.rd_script.specs.Script.{RanToEnd}
 use Rattle.rd_trace.specs.declared.faults.TraceFault.{TraceFault}
 use Rattle.rd_program.specs.Program.{WritesTraceIfAsked, RanToTrace}

@@ -2,13 +2,13 @@
 use Rattle.std.specs.Prelude.{◌≡◌, ◌+◌, ℕ, false, MatchBool, cond, List, [], ◌∷◌, ◌++◌, codes, Option, None, Some, is_some, Result, Ok, Err}
 use Rattle.std.specs.Io.KnownBytes.{Appends}
 use Rattle.rd_cell.specs.declared.refusal.Refusal.TheVariants as refusal
-use Rattle.rd_script.specs.declared.answers.AnyRefusal.{AnyRefusal}
-use Rattle.rd_script.specs.declared.answers.AnyRefusal.TheVariants as refused
-use Rattle.rd_script.specs.declared.faults.ScriptFault.TheVariants as script
-use Rattle.rd_script.specs.Device.{TakesBeginning}
-use Rattle.rd_script.specs.Headings.{viewer_refusal_text}
-use Rattle.rd_script.specs.Streams.{GetsNothing, Stream}
-use Rattle.rd_script.specs.Replies.{answer_text}
+use Rattle.rd_text.specs.declared.answers.AnyRefusal.{AnyRefusal}
+use Rattle.rd_text.specs.declared.answers.AnyRefusal.TheVariants as refused
+use Rattle.rd_devices.specs.declared.faults.ScriptFault.TheVariants as script
+use Rattle.rd_devices.specs.Device.{TakesBeginning}
+use Rattle.rd_text.specs.Headings.{viewer_refusal_text}
+use Rattle.rd_devices.specs.Streams.{GetsNothing, Stream}
+use Rattle.rd_text.specs.Replies.{answer_text}
 use Rattle.rd_trace.specs.declared.faults.TraceFault.{TraceFault}
 use Rattle.rd_trace.specs.declared.faults.TraceFault.TheVariants as trace
 use Rattle.rd_view.specs.declared.faults.ViewFault.{ViewFault}

@@ -5,12 +5,12 @@ use Rattle.std.specs.Io.KnownBytes.{Appends}
 use Rattle.rd_lock.specs.Histories.{NamesUpTo}
 use Rattle.rd_marks.specs.BookState.{BookState}
 use Rattle.rd_desk.specs.Histories.{entries}
-use Rattle.rd_script.specs.declared.devices.sources.Source.{Ghosts as SourceOf}
-use Rattle.rd_script.specs.declared.devices.sinks.Sink.{Ghosts as SinkOf}
-use Rattle.rd_script.specs.declared.writing.headings.Heading.TheVariants.{History}
-use Rattle.rd_script.specs.Device.{TakesBeginning}
-use Rattle.rd_script.specs.Headings.{heading_text}
-use Rattle.rd_script.specs.Streams.{GetsNothing, Stream}
+use Rattle.rd_devices.specs.declared.sources.Source.{Ghosts as SourceOf}
+use Rattle.rd_devices.specs.declared.sinks.Sink.{Ghosts as SinkOf}
+use Rattle.rd_text.specs.declared.writing.headings.Heading.TheVariants.{History}
+use Rattle.rd_devices.specs.Device.{TakesBeginning}
+use Rattle.rd_text.specs.Headings.{heading_text}
+use Rattle.rd_devices.specs.Streams.{GetsNothing, Stream}
 use Rattle.rd_view.specs.declared.faults.ViewFault.TheVariants as view
 use Rattle.rd_view.specs.declared.live.ViewerEnd.{ViewerEnd}
 use Rattle.rd_view.specs.Live.{AreLiveEnds}

@@ -3,10 +3,10 @@
 use Rattle.std.specs.Prelude.{◌≡◌, ◌⊎◌, ℕ, Bool, true, false, List, Option, Result, Ok, Err}
 use Rattle.rd_journal.specs.Journal.{Journal}
 use Rattle.rd_marks.specs.BookState.{BookState}
-use Rattle.rd_script.specs.Streams.{Devices, GetsNothing, IsUnused, Stream}
+use Rattle.rd_devices.specs.Streams.{Devices, GetsNothing, IsUnused, Stream}
 use Rattle.rd_script.specs.Script.{RanToEnd, RunsScript}
 use Rattle.rd_trace.specs.declared.faults.TraceFault.{TraceFault}
-use Rattle.rd_script.specs.declared.any_book.AnyBook.{AnyBook}
+use Rattle.rd_marks.specs.declared.any_book.AnyBook.{AnyBook}
 use Rattle.rd_trace.specs.Writing.{WritesTrace}
 use Rattle.rd_trace.specs.Loading.{LoadsTrace}
 use Rattle.rd_program.specs.declared.faults.ProgramFault.{ProgramFault}

@@ -5,10 +5,10 @@ use Rattle.std.specs.Io.KnownBytes.{Appends}
 use Rattle.std.specs.List.{AllByRecursion}
 use Rattle.rd_marks.specs.BookState.{BookState}
 use Rattle.rd_desk.specs.declared.histories.Call.{Call}
-use Rattle.rd_desk.specs.Histories.{EntriesLeadTo, entries}
-use Rattle.rd_script.specs.AnyBook.{any_journal, any_state}
-use Rattle.rd_script.specs.Device.{TakesBeginning}
-use Rattle.rd_script.specs.Streams.{GetsNothing, Stream}
+use Rattle.rd_desk.specs.Histories.{CallsLeadTo, entries}
+use Rattle.rd_marks.specs.AnyBook.{any_journal, any_state}
+use Rattle.rd_devices.specs.Device.{TakesBeginning}
+use Rattle.rd_devices.specs.Streams.{GetsNothing, Stream}
 use Rattle.rd_trace.specs.Writing.{IsTextOf}
 use Rattle.rd_view.specs.declared.faults.ViewFault.TheVariants as view
 use Rattle.rd_view.specs.Reports.{SpellsItsCommand, history_text}
@@ -42,7 +42,7 @@ module _ (opened : BookState) where
   -- from a book in the state `opened`, the history that viewers left leads to the book that they
   -- left
   abbrev pub LeadsTo : Left → Type 0
-  LeadsTo left = ∥ EntriesLeadTo opened (entries left.history) (any_state left.book) (any_journal left.book) ∥₁
+  LeadsTo left = ∥ CallsLeadTo opened (entries left.history) (any_state left.book) (any_journal left.book) ∥₁
 
   -- the report of a view of these scripts over a book in the state `opened`, of which this is left
   pub record IsReport (scripts : List (Vec ℕ Global)) (left : Left) (report : List ℕ) : Type 0 where

@@ -2,13 +2,14 @@
 
 ghost use Rattle.std.specs.Prelude.{◌≡◌, true, false, IfErr, OnOk, OnErr};
 ghost use Rattle.std.specs.Process.{exit_status};
-ghost use Rattle.rd_script.specs.Streams.{sink_stream};
+ghost use Rattle.rd_devices.specs.Streams.{sink_stream};
 ghost use Rattle.rd_program.specs.Endings.{EndsAs, TakesUnlessFailed, end_refusal, error_line, viewer_line, viewer_lines, viewers_status};
 
 use super::faults::ProgramFault;
 use super::setups::Done;
 use rd_cell::Refusal;
-use rd_script::{AnyRefusal, ScriptFault, Sink, Text, set_answer, set_viewer_refusal, write_all};
+use rd_devices::{ScriptFault, Sink, write_all};
+use rd_text::{AnyRefusal, Text, set_answer, set_viewer_refusal};
 use rd_view::ViewerEnd;
 use std::process::ExitCode;
 

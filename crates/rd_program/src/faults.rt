@@ -6,7 +6,8 @@ ghost use Rattle.rd_program.specs.declared.faults.ProgramFault.TheVariants.{NoMe
 ghost use Rattle.rd_program.specs.Endings.{refusal_of, trace_refusal, view_refusal};
 
 use rd_cell::Refusal;
-use rd_script::{AnyRefusal, ScriptFault};
+use rd_devices::ScriptFault;
+use rd_text::AnyRefusal;
 use rd_trace::TraceFault;
 use rd_view::ViewFault;
 use std::alloc::AllocError;

@@ -2,8 +2,8 @@
 
 ghost use Rattle.std.specs.Prelude.{◌≡◌, ◌≤◌, false, length, IfOk, IfErr};
 ghost use Rattle.rd_desk.specs.declared.desks.TheConstants.{MOST_VIEWERS};
-ghost use Rattle.rd_script.specs.AnyBook.{any_state};
-ghost use Rattle.rd_script.specs.Streams.{sink_stream};
+ghost use Rattle.rd_marks.specs.AnyBook.{any_state};
+ghost use Rattle.rd_devices.specs.Streams.{sink_stream};
 ghost use Rattle.rd_view.specs.declared.faults.ViewFault.TheVariants.{NoMemory};
 ghost use Rattle.rd_view.specs.Viewing.{IsBusyOrNoMemory};
 ghost use Rattle.rd_program.specs.Live.{EndedLive, IsLiveText, ViewsLive};
@@ -11,7 +11,9 @@ ghost use Rattle.rd_program.specs.Live.{EndedLive, IsLiveText, ViewsLive};
 use super::faults::ProgramFault;
 use super::setups::{Left, ViewExtras};
 use super::viewers::put_extras;
-use rd_script::{AnyBook, Heading, Sink, Text, set_heading, write_all};
+use rd_devices::{Sink, write_all};
+use rd_marks::AnyBook;
+use rd_text::{Heading, Text, set_heading};
 use rd_view::{Terminal, ViewFault, ViewerEnd, run_live};
 use std::alloc::Global;
 use std::sync::Wait;
@@ -43,7 +45,7 @@ pub fn view_live<R: Threads + Wait + Sync, T: Terminal + Send + Drop, K: Sink>(
     ensures views { ViewsLive T.opens T.Reader.Source T.Writer.Sink (any_state book)
         terminals.items extras (sink_stream K.Sink writer.old writer.new) result }
 {
-    let (ends, left) = live_any(rt, alloc, terminals, book)?;
+    let (ends, left) = run_live_any_book(rt, alloc, terminals, book)?;
     let text = live_text(alloc, &left, extras)?;
     match write_all(writer, text.as_slice()) {
         Ok(()) => Ok((ends, left)),
@@ -54,7 +56,7 @@ pub fn view_live<R: Threads + Wait + Sync, T: Terminal + Send + Drop, K: Sink>(
 /// Lets viewers work on a book, as `view_live` does. Returns how each viewer ended, and what they
 /// left. Fails with `NoMemory` if memory is refused, and with `Busy` if the desk can't be closed;
 /// the book is then lost.
-fn live_any<R: Threads + Wait + Sync, T: Terminal + Send + Drop>(
+fn run_live_any_book<R: Threads + Wait + Sync, T: Terminal + Send + Drop>(
     rt: &R,
     alloc: Global,
     terminals: Vec<T>,

@@ -3,14 +3,16 @@
 //! the book; `read_whole_text` reads a trace for `load_book`, or a script for `view_book`.
 
 ghost use Rattle.std.specs.Prelude.{◌≡◌, ℕ, false, IfOk, IfErr, IfSome};
-ghost use Rattle.rd_script.specs.Streams.{devices, sink_stream};
-ghost use Rattle.rd_script.specs.Ring.{ring_length};
-ghost use Rattle.rd_script.specs.AnyBook.{any_journal, any_state, fresh_state, IsBookIn};
+ghost use Rattle.rd_devices.specs.Streams.{devices, sink_stream};
+ghost use Rattle.rd_marks.specs.Ring.{ring_length};
+ghost use Rattle.rd_marks.specs.AnyBook.{any_journal, any_state, fresh_state, IsBookIn};
 ghost use Rattle.rd_program.specs.Program.{IsReadOrNoMemory, LoadsBook, PlaysOver, WritesTraceIfAsked};
 
 use super::faults::ProgramFault;
 use super::setups::Setup;
-use rd_script::{AnyBook, Sink, Source};
+use rd_devices::{Sink, Source};
+use rd_marks::AnyBook;
+use rd_script::run_any_book;
 use rd_trace::{TraceFault, load_trace, write_any_trace};
 use std::alloc::Global;
 use std::io::{ErrorKind, Read};
@@ -59,7 +61,7 @@ pub fn play<S: Source, K: Sink>(
     ensures plays { PlaysOver (any_state book.old) (any_state book.new) (any_journal book.new) trace
         (devices S.Source K.Sink reader.old reader.new writer.old writer.new) result }
 {
-    let lines = book.run(reader, writer)?;
+    let lines = run_any_book(reader, writer, book)?;
     write_trace_if_asked(alloc, writer, book, trace)?;
     Ok(lines)
 }

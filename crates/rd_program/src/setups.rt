@@ -5,7 +5,7 @@ ghost use Rattle.std.specs.Prelude.{◌≤◌};
 ghost use Rattle.rd_cell.specs.declared.limits.TheConstants.{MOST_ACTORS};
 
 use rd_desk::History;
-use rd_script::{AnyBook, Ring};
+use rd_marks::{AnyBook, Ring};
 use rd_view::ViewerEnd;
 
 /// The fresh world that a run begins in, by its size.

@@ -3,8 +3,8 @@
 ghost use Rattle.std.specs.Prelude.{◌≡◌, ◌≤◌, ◌++◌, ℕ, List, false, length, string_bytes, IfOk, IfErr, IsUtf8, OnOk};
 ghost use Rattle.rd_desk.specs.declared.desks.TheConstants.{MOST_VIEWERS};
 ghost use Rattle.rd_desk.specs.Histories.{entries};
-ghost use Rattle.rd_script.specs.Streams.{sink_stream};
-ghost use Rattle.rd_script.specs.AnyBook.{any_state};
+ghost use Rattle.rd_devices.specs.Streams.{sink_stream};
+ghost use Rattle.rd_marks.specs.AnyBook.{any_state};
 ghost use Rattle.rd_view.specs.declared.faults.ViewFault.TheVariants.{NoMemory};
 ghost use Rattle.rd_view.specs.Viewing.{IsBusyOrNoMemory};
 ghost use Rattle.rd_trace.specs.Writing.{IsTextOf};
@@ -13,7 +13,8 @@ ghost use Rattle.rd_program.specs.Viewers.{HasExtras, IsHistoryIfAsked, IsReport
 use super::faults::ProgramFault;
 use super::setups::{Left, ViewExtras};
 use rd_desk::History;
-use rd_script::{AnyBook, Sink, write_all};
+use rd_devices::{Sink, write_all};
+use rd_marks::AnyBook;
 use rd_trace::trace_text;
 use rd_view::{ViewFault, put_history, run_scripts};
 use std::alloc::{AllocError, Global};
@@ -46,7 +47,7 @@ pub fn view_book<R: Threads + Wait + Sync, K: Sink>(
     ensures views { ViewsOver (any_state book) scripts.now extras
         (sink_stream K.Sink writer.old writer.new) result }
 {
-    let (mut text, left) = view_any(rt, alloc, scripts, book)?;
+    let (mut text, left) = run_scripts_any_book(rt, alloc, scripts, book)?;
     put_extras(alloc, &mut text, &left, extras)?;
     match write_all(writer, text.as_slice()) {
         Ok(()) => Ok(left),
@@ -57,7 +58,7 @@ pub fn view_book<R: Threads + Wait + Sync, K: Sink>(
 /// Runs 1 to 64 scripts over a book, as `view_book` does. Returns the text up to the number of
 /// calls, and what the viewers left. Fails with `NoMemory` if memory is refused, and with `Busy` if
 /// the desk can't be closed; the book is then lost.
-fn view_any<R: Threads + Wait + Sync>(
+fn run_scripts_any_book<R: Threads + Wait + Sync>(
     rt: &R,
     alloc: Global,
     scripts: &[Vec<u8>],

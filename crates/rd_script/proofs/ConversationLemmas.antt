@@ -1,14 +1,6 @@
 -- A conversation that goes on: the bytes that were given so far, their lines and the answers.
-use Rattle.rd_script.proofs.Prelude.{◌≡◌, ◌≢◌, ◌⊎◌, ℕ, ◌+◌, ◌-◌, ◌^◌, ◌≤◌, Bool, true, false, List, [], ◌∷◌, ◌++◌, length, Option, refl, sym, ◌∙◌, ap, arith, inl, inr, append_assoc, length-append, Result, Ok, Err, flat_map, flat_map-append, ne_eqb, append-nil, Consumes, Appends, IsAtEnd, onto_first, lines_of, ended_lines_of, IsOneLine, ReadsNext, ScriptFault, Read, Write, Devices, Line, AreAnswered, CameToEnd, Converses, StoppedAtRead, WritesLine, Consumes-nil, Consumes-trans, Appends-nil, Appends-trans}
-
--- a text without a line feed, followed by one, is the first line
-pub lines-first : (text rest : List ℕ) → IsOneLine text → lines_of (text ++ 10 ∷ rest) ≡ text ∷ lines_of rest
-lines-first [] rest h = refl
-lines-first (x ∷ xs) rest h = rw (ne_eqb x 10 h.0, lines-first xs rest h.1) refl
-
-ended-first : (text rest : List ℕ) → IsOneLine text → ended_lines_of (text ++ 10 ∷ rest) ≡ text ∷ ended_lines_of rest
-ended-first [] rest h = refl
-ended-first (x ∷ xs) rest h = rw (ne_eqb x 10 h.0, ended-first xs rest h.1) refl
+use Rattle.rd_script.proofs.Prelude.{◌≡◌, ◌≢◌, ◌⊎◌, ℕ, ◌+◌, ◌-◌, ◌^◌, ◌≤◌, Bool, true, false, List, [], ◌∷◌, ◌++◌, length, Option, refl, sym, ◌∙◌, ap, arith, inl, inr, append_assoc, length-append, Result, Ok, Err, flat_map, flat_map-append, ne_eqb, append-nil, Consumes, Appends, IsAtEnd, onto_first, lines_of, ended_lines_of, IsOneLine, ReadsNext, ScriptFault, Read, Write, Devices, Line, AreAnswered, CameToEnd, Converses, StoppedAtRead, StoppedAtWrite, TakesBeginning, Consumes-nil, Consumes-trans, Appends-nil, Appends-trans}
+use Rattle.rd_text.proofs.TextLemmas.{lines-first, ended-first}
 
 -- a text without a line feed is one line, which no line feed ended
 lines-last : (text : List ℕ) → IsOneLine text → text ≢ [] → lines_of text ≡ text ∷ []
@@ -214,11 +206,10 @@ module _ {S A : Type 0} (text_of : A → List ℕ) (R : S → List ℕ → A →
 
       -- the sink failed at the answer to the line. A line feed ended the line, or the end of the
       -- source
-      pub stopped_at_write : (fault : ScriptFault) (ending : List ℕ) (in_new out_new : Option (List ℕ)) (in_failed' out_failed' : Bool) → Consumes d.input.after in_new (line ++ ending) → lines_of (g.given ++ (line ++ ending)) ≡ lines_of g.given ++ line ∷ []
-          → (ended_lines_of (g.given ++ (line ++ ending)) ≡ lines_of (g.given ++ (line ++ ending))) ⊎ IsAtEnd in_new → WritesLine d.output.after out_new (text_of answer) (Err fault) → in_failed' ≡ false → out_failed' ≡ true
-          → Converses text_of (DoneBy next) (now_at in_new in_failed' out_new out_failed') (Err fault)
-      stopped_at_write Read ending in_new out_new in_failed' out_failed' took all whole none in_works fails = absurd none
-      stopped_at_write Write ending in_new out_new in_failed' out_failed' took all whole wrote in_works fails = record {
+      pub stopped_at_write : (ending : List ℕ) (in_new out_new : Option (List ℕ)) (in_failed' out_failed' : Bool) → Consumes d.input.after in_new (line ++ ending) → lines_of (g.given ++ (line ++ ending)) ≡ lines_of g.given ++ line ∷ []
+          → (ended_lines_of (g.given ++ (line ++ ending)) ≡ lines_of (g.given ++ (line ++ ending))) ⊎ IsAtEnd in_new → TakesBeginning d.output.after out_new (text_of answer) → in_failed' ≡ false → out_failed' ≡ true
+          → StoppedAtWrite text_of (DoneBy next) (now_at in_new in_failed' out_new out_failed')
+      stopped_at_write ending in_new out_new in_failed' out_failed' took all whole wrote in_works fails = record {
         in_works = in_works;
         out_failed = fails;
         given = g.given ++ (line ++ ending);

@@ -1,17 +1,4 @@
 pub mod Prelude
-pub mod ResultLemmas
 pub mod LineLemmas
 pub mod ConversationLemmas
 pub mod ScriptLemmas
-pub mod TextLemmas
-pub mod PutLemmas
-pub mod NameLemmas
-pub mod NumeralLemmas
-pub mod PartLemmas
-pub mod KeywordLemmas
-pub mod SplitLemmas
-pub mod SpellingLemmas
-pub mod NameReadLemmas
-pub mod OneLemmas
-pub mod SayLemmas
-pub mod CallLemmas

@@ -1,5 +1,5 @@
 -- Reading a line, byte by byte.
-use Rattle.rd_script.proofs.Prelude.{Consumes-trans, ◌≡◌, ◌≢◌, ℕ, ◌+◌, Bool, false, List, [], ◌∷◌, ◌++◌, length, Option, Some, None, sym, ◌∙◌, ap, length-append, arith, Consumes, Line, GivesByte, IsOneLine, Holds, ReadsLast}
+use Rattle.rd_script.proofs.Prelude.{Consumes-trans, ◌≡◌, ◌≢◌, ℕ, ◌+◌, Bool, false, List, [], ◌∷◌, ◌++◌, length, Option, Some, None, sym, ◌∙◌, ap, length-append, Consumes, Line, GivesByte, IsOneLine, Holds, ReadsLast}
 use Rattle.std.proofs.SliceLists.{all_by_recursion_push}
 
 -- the source has given `count` bytes of a line, none of them a line feed, and the buffer stands for
@@ -11,10 +11,6 @@ pub record HasBegun (old now : Option (List ℕ)) (failed : Bool) (line : Line) 
   pub took : Consumes old now text
   pub works : failed ≡ false
   pub counted : length text ≡ count
-
--- an empty buffer stands for a line of which no byte was given
-pub begins : (old : Option (List ℕ)) (failed : Bool) (line : Line) → Holds line [] → failed ≡ false → HasBegun old old failed line 0
-begins old failed line h works = grind arith
 
 -- the line goes on with one more byte that is no line feed
 pub goes_on : {old now : Option (List ℕ)} (new : Option (List ℕ)) {failed failed' : Bool} {line line' : Line} {count : ℕ} (byte : ℕ) → HasBegun old now failed line count → GivesByte now new (Some byte) → byte ≢ 10 → ((text : List ℕ) → Holds line text → Holds line' (text ++ byte ∷ [])) → failed' ≡ false → HasBegun old new failed' line' (count + 1)

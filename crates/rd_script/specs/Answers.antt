@@ -3,15 +3,14 @@ use Rattle.std.specs.Prelude.{◌≡◌, ℕ, List, [], ◌∷◌, map, flat_map
 use Rattle.std.specs.List.{AllZip}
 use Rattle.rd_step.specs.Prelude.{Refusal}
 use Rattle.rd_journal.specs.Journal.{Journal}
-use Rattle.rd_marks.specs.declared.commands.Command.{Command}
 use Rattle.rd_marks.specs.declared.replies.Reply.{Reply}
 use Rattle.rd_marks.specs.BookState.{BookState}
 use Rattle.rd_marks.specs.Commands.{IsObeyed}
 use Rattle.rd_marks.specs.Headline.{Headline}
-use Rattle.rd_script.specs.declared.answers.AnyRefusal.TheVariants.{Refused, Unread}
-use Rattle.rd_script.specs.Lines.{ParsedLine}
-use Rattle.rd_script.specs.Spelling.{Says}
-use Rattle.rd_script.specs.Replies.{LineAnswer, answer_text}
+use Rattle.rd_text.specs.declared.answers.AnyRefusal.TheVariants.{Refused, Unread}
+use Rattle.rd_text.specs.Lines.{ParsedLine, commands_of}
+use Rattle.rd_text.specs.Spelling.{Says}
+use Rattle.rd_text.specs.Replies.{LineAnswer, answer_text}
 
 -- the answer to a line that spells a command, from the book's answer to that command: the same
 -- reply, or the refusal as an `AnyRefusal`
@@ -25,12 +24,6 @@ abbrev pub AnswersParsedLine : BookState → ParsedLine → LineAnswer → BookS
 AnswersParsedLine s (Err fault) answer after = (answer ≡ Err (Unread fault)) × (after ≡ s)
 AnswersParsedLine s (Ok command) answer after =
     (given : Result Reply Refusal) × IsObeyed s command (record { answer = given; state = after }) × (answer ≡ line_answer given)
-
--- the commands among what lines spell, in order
-abbrev pub commands_of : List ParsedLine → List Command
-commands_of [] = []
-commands_of (Ok command ∷ said) = command ∷ commands_of said
-commands_of (Err fault ∷ said) = commands_of said
 
 -- the answers to lines, in order: a fault gets its refusal, and a command the next of these
 -- answers. If they run out, a command gets none; any left over are dropped. `AreObeyed` provides

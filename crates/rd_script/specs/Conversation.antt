@@ -1,13 +1,12 @@
 -- A conversation: lines are read from a source, and the answer to each is written to a sink before
 -- the next one is read. What it did is stated for each way to end.
 use mathlib.Core.List.{IsPrefix}
-use Rattle.std.specs.Prelude.{◌≡◌, ℕ, ◌+◌, ◌^◌, ◌≤◌, ◌⊎◌, true, false, List, [], ◌∷◌, ◌++◌, flat_map, length, Option, Result, Ok, Err}
+use Rattle.std.specs.Prelude.{◌≡◌, ℕ, ◌+◌, ◌^◌, ◌≤◌, ◌⊎◌, true, false, List, [], ◌∷◌, ◌++◌, flat_map, length, Result, Ok, Err}
 use Rattle.std.specs.Io.KnownBytes.{Consumes, Appends, IsAtEnd}
-use Rattle.rd_script.specs.declared.faults.ScriptFault.{ScriptFault}
-use Rattle.rd_script.specs.declared.faults.ScriptFault.TheVariants.{Read, Write}
-use Rattle.rd_script.specs.Device.{TakesBeginning}
-use Rattle.rd_script.specs.Streams.{Devices}
-use Rattle.rd_script.specs.Lines.{lines_of, ended_lines_of}
+use Rattle.rd_devices.specs.declared.faults.ScriptFault.{ScriptFault}
+use Rattle.rd_devices.specs.declared.faults.ScriptFault.TheVariants.{Read, Write}
+use Rattle.rd_devices.specs.Streams.{Devices}
+use Rattle.rd_text.specs.Lines.{lines_of, ended_lines_of}
 
 -- the lines were answered one after another, with one answer each. R relates what answers before a
 -- line, the line, its answer and what answers after it. This leads from `first` to `last`
@@ -16,13 +15,6 @@ AreAnswered R first [] [] last = last ≡ first
 AreAnswered R first [] (answer ∷ answers) last = ⊥
 AreAnswered R first (line ∷ lines) [] last = ⊥
 AreAnswered {S = S} R first (line ∷ lines) (answer ∷ answers) last = (next : S) × R first line answer next × AreAnswered R next lines answers last
-
--- by the result, a line of text was written, or a beginning of it if the sink failed (`Write`);
--- false for `Read`. The sink's bytes went from `old` to `new`
-abbrev pub WritesLine : Option (List ℕ) → Option (List ℕ) → List ℕ → Result (Unit {0}) ScriptFault → Type 0
-WritesLine old new text (Ok _) = Appends old new text
-WritesLine old new text (Err Write) = TakesBeginning old new text
-WritesLine old new text (Err Read) = ⊥
 
 -- `text_of` gives the line of an answer, with its line feed. `Done` is what became of the lines
 -- that were answered: it relates them to their answers

@@ -4,13 +4,13 @@ use Rattle.rd_journal.specs.Journal.{Journal}
 use Rattle.rd_marks.specs.Book.{book_state}
 use Rattle.rd_marks.specs.BookState.{BookState}
 use Rattle.rd_marks.specs.declared.books.Book.{Book}
-use Rattle.rd_script.specs.declared.faults.ScriptFault.{ScriptFault}
+use Rattle.rd_devices.specs.declared.faults.ScriptFault.{ScriptFault}
 use Rattle.rd_script.specs.Answers.{AnswersParsedLine, AreObeyedLines}
 use Rattle.rd_script.specs.Conversation.{CameToEnd, Converses}
-use Rattle.rd_script.specs.Lines.{ParsedLine}
-use Rattle.rd_script.specs.Replies.{LineAnswer, answer_text}
-use Rattle.rd_script.specs.Spelling.{Says}
-use Rattle.rd_script.specs.Streams.{Devices}
+use Rattle.rd_text.specs.Lines.{ParsedLine}
+use Rattle.rd_text.specs.Replies.{LineAnswer, answer_text}
+use Rattle.rd_text.specs.Spelling.{Says}
+use Rattle.rd_devices.specs.Streams.{Devices}
 
 -- what a book does with a line: it obeys the command that the line spells, or leaves its fault, as
 -- `AnswersParsedLine` says, and keeps its start

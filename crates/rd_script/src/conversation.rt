@@ -1,16 +1,14 @@
 //! A conversation: each line of a source is answered, and its answer is written, before the next
 //! line is read. A run of a script is one, and so is what a viewer does that is there at once.
 
-ghost use Rattle.std.specs.Prelude.{◌≡◌, ℕ, List, false, true, OnOk, OnErr};
-ghost use Rattle.rd_script.specs.Conversation.{AreAnswered, Converses, WritesLine};
-ghost use Rattle.rd_script.specs.Lines.{Holds};
-ghost use Rattle.rd_script.specs.Streams.{devices};
+ghost use Rattle.std.specs.Prelude.{◌≡◌, ℕ, List, false};
+ghost use Rattle.rd_script.specs.Conversation.{AreAnswered, Converses};
+ghost use Rattle.rd_script.specs.NextLine.{Holds};
+ghost use Rattle.rd_devices.specs.Streams.{devices};
 
-use super::devices::sinks::{Sink, write_all};
-use super::devices::sources::Source;
-use super::faults::ScriptFault;
-use super::reading::lines::{Line, Reading};
-use super::writing::texts::Text;
+use super::lines::{Line, Reading};
+use rd_devices::{ScriptFault, Sink, Source, write_all};
+use rd_text::Text;
 
 /// What answers lines one after another, such as a book.
 pub trait Answerer {
@@ -61,37 +59,16 @@ pub fn converse<S: Source, K: Sink, A: Answerer>(
     let mut line = Line::new();
     let mut text = Text::new();
     for done in 0..u64::MAX {
-        match line.read_next(reader)? {
+        let is_last = match line.read_next(reader)? {
             Reading::End => return Ok(done),
-            Reading::Last => {
-                answer_line(answerer, &line, &mut text, writer)?;
-                return Ok(done + 1);
-            }
-            Reading::Ended => answer_line(answerer, &line, &mut text, writer)?,
+            Reading::Last => true,
+            Reading::Ended => false,
+        };
+        answerer.answer(&line, &mut text);
+        write_all(writer, text.as_slice())?;
+        if is_last {
+            return Ok(done + 1);
         }
     }
     Err(ScriptFault::Read)
-}
-
-/// Has a line answered, and writes its answer, whose line is made in the buffer `text`. Fails with
-/// `Write` if the writer fails or takes nothing; the line was then answered, and the writer has
-/// taken a beginning of the answer's line. The writer must not have failed before, and lines can be
-/// answered.
-fn answer_line<K: Sink, A: Answerer>(
-    answerer: &mut A,
-    line: &Line,
-    text: &mut Text,
-    writer: &mut K,
-) -> Result<(), ScriptFault>
-    requires works { K.has_failed writer.old ≡ false }
-    requires ready { A.can_answer answerer.old }
-    ensures ready { A.can_answer answerer.new }
-    ensures does { (bytes : List ℕ) → Holds line.now bytes
-        → (given : A.Answer) × A.answers answerer.old bytes given answerer.new
-        × WritesLine (K.contents writer.old) (K.contents writer.new) (A.text_of given) result }
-    ensures works { OnOk result (K.has_failed writer.new ≡ false) }
-    ensures fails { OnErr result (K.has_failed writer.new ≡ true) }
-{
-    answerer.answer(line, text);
-    write_all(writer, text.as_slice())
 }

@@ -1,28 +1,18 @@
 //! A script: each line is read, obeyed and answered before the next one is read.
 
-ghost use Rattle.std.specs.Prelude.{◌≡◌, Result, Some, false, IfErr};
-ghost use Rattle.std.specs.Result.{ForErr};
-ghost use Rattle.rd_cell.specs.declared.refusal.Refusal.{Refusal};
-ghost use Rattle.rd_step.specs.declared.entries.Event.{Event as Happening};
-ghost use Rattle.rd_journal.specs.Sessions.{journal, MayRefuse};
-ghost use Rattle.rd_marks.specs.declared.replies.Reply.{Reply};
-ghost use Rattle.rd_marks.specs.Book.{book_state, session_of, MayRefuseIfGoto};
-ghost use Rattle.rd_marks.specs.Commands.{IsObeyed};
-ghost use Rattle.rd_marks.specs.Events.{as_event};
-ghost use Rattle.rd_script.specs.Streams.{devices};
-ghost use Rattle.rd_script.specs.Replies.{answer_text};
-ghost use Rattle.rd_script.specs.Answers.{line_answer};
+ghost use Rattle.std.specs.Prelude.{◌≡◌, false};
+ghost use Rattle.rd_journal.specs.Sessions.{journal};
+ghost use Rattle.rd_marks.specs.AnyBook.{any_journal, any_state};
+ghost use Rattle.rd_marks.specs.Book.{book_state, session_of};
+ghost use Rattle.rd_devices.specs.Streams.{devices};
+ghost use Rattle.rd_text.specs.Replies.{answer_text};
 ghost use Rattle.rd_script.specs.Script.{BookAnswers, RunsScript};
 
-use super::answers::{AnyRefusal, LineAnswer};
 use super::conversation::{Answerer, converse};
-use super::devices::sinks::Sink;
-use super::devices::sources::Source;
-use super::faults::ScriptFault;
-use super::reading::lines::Line;
-use super::writing::lines::{set_refusal, set_reply};
-use super::writing::texts::Text;
-use rd_marks::{Book, Command};
+use super::lines::Line;
+use rd_devices::{ScriptFault, Sink, Source};
+use rd_marks::{AnyBook, Book};
+use rd_text::{AnyRefusal, LineAnswer, Text, set_refusal, set_reply};
 
 /// Runs a script over a book: reads its lines to the end, obeys each when it is complete and writes
 /// its answer at once. Returns the number of lines. Neither the reader nor the writer may have
@@ -52,6 +42,29 @@ pub fn run<S: Source, K: Sink, const R: usize>(
     converse(reader, writer, book)
 }
 
+/// Runs a script over a book whose ring is known only when the program runs, as `run` does.
+///
+/// # Errors
+///
+/// Those of `run`.
+pub fn run_any_book<S: Source, K: Sink>(
+    reader: &mut S,
+    writer: &mut K,
+    book: &mut AnyBook,
+) -> Result<u64, ScriptFault>
+    requires reader_works { S.has_failed reader.old ≡ false }
+    requires writer_works { K.has_failed writer.old ≡ false }
+    ensures runs { RunsScript (any_state book.old) (any_state book.new) (any_journal book.new)
+        (devices S.Source K.Sink reader.old reader.new writer.old writer.new) result }
+    ensures start { (any_state book.new).session.start ≡ (any_state book.old).session.start }
+{
+    match book {
+        AnyBook::Two(book) => run(reader, writer, book),
+        AnyBook::Four(book) => run(reader, writer, book),
+        AnyBook::Eight(book) => run(reader, writer, book),
+    }
+}
+
 impl<const R: usize> Answerer for Book<R> {
     type Answer = LineAnswer;
 
@@ -61,30 +74,16 @@ impl<const R: usize> Answerer for Book<R> {
 
     ghost answers = { λ old line answer new. BookAnswers old line answer new };
 
-    /// Obeys a line, if it spells a command, and replaces the text by the line of its answer. If it
-    /// spells none, the answer is the refusal of its fault, and the book stays as it is.
+    /// Obeys a line, if it spells a command, and replaces the text by the line of its answer, which
+    /// may be a refusal. A refused command changes nothing in the book. If the line spells none, the
+    /// answer is the refusal of its fault, and the book stays as it is.
     fn answer(&mut self, line: &Line, text: &mut Text) {
         match line.command() {
             Err(fault) => set_refusal(text, &AnyRefusal::Unread(fault)),
-            Ok(command) => answer_command(self, command, text),
+            Ok(command) => match self.obey(command) {
+                Err(refusal) => set_refusal(text, &AnyRefusal::Refused(refusal)),
+                Ok(reply) => set_reply(text, &reply),
+            },
         }
-    }
-}
-
-/// Obeys a command, and replaces the text by the line of its answer, which may be a refusal. A
-/// refused command changes nothing in the book.
-fn answer_command<const R: usize>(book: &mut Book<R>, command: Command, text: &mut Text)
-    ensures answers { (answer : Result Reply Refusal)
-        × IsObeyed (book_state book.old) command
-        (record { answer = answer; state = book_state book.new })
-        × IfErr answer (λ refusal. (event : Happening) → as_event command ≡ Some event
-        → MayRefuse (session_of book.old) event refusal)
-        × ForErr answer (MayRefuseIfGoto book.old command)
-        × (text.new.items ≡ answer_text (line_answer answer)) }
-    ensures start { (book_state book.new).session.start ≡ (book_state book.old).session.start }
-{
-    match book.obey(command) {
-        Err(refusal) => set_refusal(text, &AnyRefusal::Refused(refusal)),
-        Ok(reply) => set_reply(text, &reply),
     }
 }

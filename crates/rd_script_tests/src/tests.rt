@@ -24,7 +24,7 @@ mod undoing;
 use rd_actor::{Actor, Op, OpReply, Pc};
 use rd_cell::{ArrSlot, Cell, Content, SegName};
 use rd_marks::{MarkName, Reply};
-use rd_script::{LineAnswer, Text, set_answer};
+use rd_text::{LineAnswer, Text, set_answer};
 use std::process::Abort;
 
 /// The longest name of a segment.

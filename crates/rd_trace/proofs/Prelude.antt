@@ -7,9 +7,10 @@ pub use Rattle.rd_segments.proofs.Prelude.{array_contents, by_name, element_in, 
 pub use Rattle.rd_step.proofs.Prelude.{Act, Actor, ArrayParts, MOST_STEPS, Pc, Ran, Refusal, SegmentParts, Stepped, World, array_fits, events, first_flaw, fresh_world, indexes_fit, model, names_fit, next_fits, numbered, numbers_within, result_map, run, step, words_fit, world_of_parts}
 pub use Rattle.rd_journal.proofs.Prelude.{State, apply, back, state, step_after, with_event}
 pub use Rattle.rd_marks.proofs.Prelude.{Answered, AnswersMarkEvents, BookState, CanRun, IsEventAnswer, HaveDifferentNames, KeepsRules, MOST_MARKS, Mark, MarksCanRun, answer_with, at_events, book_state, bytes_of, is_mark_name, is_name_byte, mark, mark_at, mark_events, mark_name_eq, events_by_name, opened_ring, session_of, with_session}
-pub use Rattle.rd_script.proofs.Prelude.{Book, Reply}
-pub use Rattle.rd_script.specs.AnyBook.{IsBookIn, any_state}
-pub use Rattle.rd_script.specs.declared.any_book.AnyBook.{AnyBook}
+pub use Rattle.rd_marks.specs.AnyBook.{IsBookIn, any_state}
+pub use Rattle.rd_marks.specs.declared.books.Book.{Book}
+pub use Rattle.rd_marks.specs.declared.replies.Reply.{Reply}
+pub use Rattle.rd_marks.specs.declared.any_book.AnyBook.{AnyBook}
 pub use Rattle.json.proofs.Printed.Strings.{content-escape, escape_byte_plain, lex-escape}
 pub use Rattle.json.specs.Lex.{Lexeme, between, comma, fresh, punctuate, string_token, token, tokens}
 unfoldable pub use Rattle.json.specs.Lex.{lex}

@@ -1,18 +1,18 @@
 -- Whole sessions as JSON values.
 use Rattle.rd_trace.proofs.Prelude.{◌≡◌, refl, inl, inr, Err, NoMemory, BadTrace, same_Some, ℕ, ◌+◌, ◌<◌, List, [], ◌∷◌, ◌++◌, length, take, get_or, Some, None, Result, Ok, sym, ap, ◌∙◌, arith, length-map, take_more, get_or-map, Data, Entry, BookState, Reads, Gives, SpellEach, items_by, event_of, event_data, SpellsWorld, SpellMarksOfBook, mark_data, member_count, Trace, IsVersion1, IsVersion2, IsEitherVersion, loaded_state, saved_trace, book_data, TraceFault, start_flaw, events}
 use mathlib.Core.Logic.{⊎_elim}
-use Rattle.rd_trace.specs.declared.saved.SavedSession.{SavedSession}
+use Rattle.rd_trace.specs.declared.saved.SavedBook.{SavedBook}
 
 -- ---- what is read
 
 -- the result of reading an object of four members as version 1 is its result for both versions
-pub version1_read : {R : ℕ} (d : Data) → member_count d ≡ Some 4 → (r : Result (SavedSession R) TraceFault) → Reads saved_trace (IsVersion1 d) r → Reads saved_trace (IsEitherVersion d) r
+pub version1_read : {R : ℕ} (d : Data) → member_count d ≡ Some 4 → (r : Result (SavedBook R) TraceFault) → Reads saved_trace (IsVersion1 d) r → Reads saved_trace (IsEitherVersion d) r
 version1_read d four (Ok s) h = inl h
 version1_read d four (Err NoMemory) h = tt
 version1_read d four (Err BadTrace) h = λ t. ⊎_elim (h t) (λ (k : IsVersion2 d t). omega (arith, same_Some 6 4 (sym k.members ∙ four)))
 version1_read d four (Err _) h = absurd h
 
-pub version2_read : {R : ℕ} (d : Data) → member_count d ≡ Some 6 → (r : Result (SavedSession R) TraceFault) → Reads saved_trace (IsVersion2 d) r → Reads saved_trace (IsEitherVersion d) r
+pub version2_read : {R : ℕ} (d : Data) → member_count d ≡ Some 6 → (r : Result (SavedBook R) TraceFault) → Reads saved_trace (IsVersion2 d) r → Reads saved_trace (IsEitherVersion d) r
 version2_read d six (Ok s) h = inr h
 version2_read d six (Err NoMemory) h = tt
 version2_read d six (Err BadTrace) h = λ t. ⊎_elim (λ (k : IsVersion1 d t). omega (arith, same_Some 4 6 (sym k.members ∙ six))) (h t)

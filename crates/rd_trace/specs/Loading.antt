@@ -3,8 +3,8 @@ use Rattle.std.specs.Prelude.{◌≡◌, ◌⊎◌, ◌+◌, ◌<◌, ℕ, List,
 use Rattle.std.specs.Option.{option_or}
 use Rattle.rd_step.specs.Prelude.{World}
 use Rattle.rd_marks.specs.BookState.{Mark, BookState}
-use Rattle.rd_script.specs.AnyBook.{any_state, IsBookIn}
-use Rattle.rd_script.specs.declared.any_book.AnyBook.{AnyBook}
+use Rattle.rd_marks.specs.AnyBook.{any_state, IsBookIn}
+use Rattle.rd_marks.specs.declared.any_book.AnyBook.{AnyBook}
 use Rattle.rd_trace.specs.declared.faults.TraceFault.{TraceFault}
 use Rattle.rd_trace.specs.declared.faults.TraceFault.TheVariants.{NoMemory, BadTrace, Flawed, TraceMark, TraceStep}
 use Rattle.rd_trace.specs.Starts.{start_world, start_flaw}

@@ -16,7 +16,7 @@ use Rattle.rd_trace.specs.Bookmarks.{SpellMarksOfBook, mark_data, saved_mark}
 use Rattle.rd_trace.specs.Traces.{IsTraceRing}
 use Rattle.rd_trace.specs.declared.starts.Start.{Start}
 use Rattle.rd_trace.specs.declared.starts.Start.TheVariants as start
-use Rattle.rd_trace.specs.declared.saved.SavedSession.{SavedSession}
+use Rattle.rd_trace.specs.declared.saved.SavedBook.{SavedBook}
 
 -- a session over rings of R cells, as a trace spells it: its start; its bookmarks and its live
 -- events, in order; and its undone events, the one undone last in front
@@ -27,7 +27,7 @@ pub record Trace (R : ℕ) : Type 0 where
   pub undone : List Event
 
 -- a session that was read, as a trace of the model
-abbrev pub saved_trace : {R : ℕ} → SavedSession R → Trace R
+abbrev pub saved_trace : {R : ℕ} → SavedBook R → Trace R
 saved_trace s = record { start = s.start; marks = map saved_mark s.marks.items; live = s.events.items; undone = s.undone.items }
 
 -- the state of the book that a trace spells: the world of its start, and its live events, undone

@@ -1,8 +1,8 @@
 -- What a sink gets when a trace is written.
 use Rattle.std.specs.Prelude.{◌≡◌, ℕ, true, false, List, Result, Ok, Err}
 use Rattle.std.specs.Io.KnownBytes.{Appends}
-use Rattle.rd_script.specs.Device.{TakesBeginning}
-use Rattle.rd_script.specs.Streams.{IsUnused, Stream}
+use Rattle.rd_devices.specs.Device.{TakesBeginning}
+use Rattle.rd_devices.specs.Streams.{IsUnused, Stream}
 use Rattle.rd_marks.specs.BookState.{BookState}
 use Rattle.rd_trace.specs.Traces.{IsTraceRing}
 use Rattle.rd_trace.specs.Saved.{IsWrittenAs}

@@ -1,7 +1,7 @@
 //! Laws of the text of a trace: each is the contract of a function that does nothing.
 
 ghost use Rattle.std.specs.Prelude.{◌≡◌, ◌≢◌, ℕ, List, Result, Err};
-ghost use Rattle.rd_script.specs.declared.any_book.AnyBook.{AnyBook};
+ghost use Rattle.rd_marks.specs.declared.any_book.AnyBook.{AnyBook};
 ghost use Rattle.rd_trace.specs.declared.faults.TraceFault.{TraceFault};
 ghost use Rattle.rd_trace.specs.declared.faults.TraceFault.TheVariants.{NoMemory};
 ghost use Rattle.rd_trace.specs.Starts.{start_flaw};

@@ -27,6 +27,6 @@ mod write;
 
 pub use faults::TraceFault;
 pub use load::load_trace;
-pub use rd_script::AnyBook;
+pub use rd_marks::AnyBook;
 pub use saved::trace_text;
 pub use write::{write_any_trace, write_trace};

@@ -14,10 +14,9 @@ ghost use Rattle.rd_trace.specs.Writing.{IsTextOf};
 use super::faults::TraceFault;
 use super::members::number_at;
 use super::replay::{go_to, set_marks, step_all, world_of};
-use super::saved::{SavedSession, parse_session};
+use super::saved::{SavedBook, parse_book};
 use rd_journal::Session;
-use rd_marks::Book;
-use rd_script::AnyBook;
+use rd_marks::{AnyBook, Book};
 use serde_json::Value;
 use std::alloc::Global;
 
@@ -53,7 +52,7 @@ pub fn load_trace(alloc: Global, text: &[u8]) -> Result<AnyBook, TraceFault>
     }
 }
 
-/// Returns the book of the session that a JSON value spells. The value must have the number `R`,
+/// Returns the book that a JSON value spells. The value must have the number `R`,
 /// from 1 to 64, at the key `ring`. It is dropped before the first event happens.
 ///
 /// # Errors
@@ -65,13 +64,13 @@ fn book_of<const R: usize>(alloc: Global, value: Value) -> Result<Book<R>, Trace
     requires ring { number_at (codes "ring") (view value) ≡ Some R }
     ensures { LoadsValue (view value) result }
 {
-    let session: SavedSession<R> = parse_session(alloc, &value)?;
+    let saved: SavedBook<R> = parse_book(alloc, &value)?;
     drop(value);
-    let world = world_of(alloc, session.start)?;
+    let world = world_of(alloc, saved.start)?;
     let mut book = Book::open(alloc, Session::open(alloc, world));
-    set_marks(&mut book, &session.marks)?;
-    go_to(&mut book, &session.events)?;
-    step_all(&mut book, &session.undone)?;
-    book.undo_last(session.undone.len() as u64);
+    set_marks(&mut book, &saved.marks)?;
+    go_to(&mut book, &saved.events)?;
+    step_all(&mut book, &saved.undone)?;
+    book.undo_last(saved.undone.len() as u64);
     Ok(book)
 }

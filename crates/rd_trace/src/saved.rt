@@ -48,10 +48,10 @@ const UNDONE: &str = "undone";
 
 const VERSION: &str = "version";
 
-/// A session that was read.
+/// A book that was read.
 #[derive(Drop)]
-pub struct SavedSession<const R: usize> {
-    /// The session's start.
+pub struct SavedBook<const R: usize> {
+    /// Where it starts.
     pub start: Start<R>,
     /// Its bookmarks, in order.
     pub marks: Vec<SavedMark>,
@@ -61,36 +61,33 @@ pub struct SavedSession<const R: usize> {
     pub undone: Vec<Event>,
 }
 
-/// Returns the session over rings of `R` cells that a JSON value spells, as a trace of version 1 or
+/// Returns the book over rings of `R` cells that a JSON value spells, as a trace of version 1 or
 /// 2. The value must have the number `R`, at most 64, at the key `ring`.
 ///
 /// # Errors
 ///
 /// `BadTrace` if it spells none; `NoMemory` if memory was refused.
 #[tactic(auto, using(crate::proofs::SavedLemmas::version1_read, crate::proofs::SavedLemmas::version2_read))]
-pub fn parse_session<const R: usize>(
-    alloc: Global,
-    value: &Value,
-) -> Result<SavedSession<R>, TraceFault>
+pub fn parse_book<const R: usize>(alloc: Global, value: &Value) -> Result<SavedBook<R>, TraceFault>
     requires small { R ≤ MOST_CELLS }
     requires ring { number_at (codes "ring") (view value.now) ≡ Some R }
     ensures { Reads saved_trace (IsEitherVersion (view value.now)) result }
 {
     match (number_at(value, VERSION), member_count(value)) {
-        (Some(1), Some(VERSION_1_MEMBERS)) => parse_version_1_session(alloc, value),
-        (Some(WRITTEN_VERSION), Some(VERSION_2_MEMBERS)) => parse_version_2_session(alloc, value),
+        (Some(1), Some(VERSION_1_MEMBERS)) => parse_version_1_book(alloc, value),
+        (Some(WRITTEN_VERSION), Some(VERSION_2_MEMBERS)) => parse_version_2_book(alloc, value),
         _ => Err(TraceFault::BadTrace),
     }
 }
 
-/// Returns the session that a JSON value spells as a trace of version 1: over a fresh world, with
+/// Returns the book that a JSON value spells as a trace of version 1: over a fresh world, with
 /// nothing undone and no bookmark. The value must be an object of four members, with the version 1
 /// and rings of `R` cells, and `R` must be at most 64. Fails with `BadTrace` if it spells none, and
 /// with `NoMemory` if memory is refused.
-fn parse_version_1_session<const R: usize>(
+fn parse_version_1_book<const R: usize>(
     alloc: Global,
     value: &Value,
-) -> Result<SavedSession<R>, TraceFault>
+) -> Result<SavedBook<R>, TraceFault>
     requires small { R ≤ MOST_CELLS }
     requires members { member_count (view value.now) ≡ Some 4 }
     requires version { number_at (codes "version") (view value.now) ≡ Some 1 }
@@ -100,7 +97,7 @@ fn parse_version_1_session<const R: usize>(
     let Some(actors) = actor_count_at(value, ACTORS) else {
         return Err(TraceFault::BadTrace);
     };
-    Ok(SavedSession {
+    Ok(SavedBook {
         start: Start::Fresh(actors),
         marks: Vec::new(alloc),
         events: parse_list(alloc, items_at(value, EVENTS))?,
@@ -108,13 +105,13 @@ fn parse_version_1_session<const R: usize>(
     })
 }
 
-/// Returns the session that a JSON value spells as a trace of version 2. The value must be an
+/// Returns the book that a JSON value spells as a trace of version 2. The value must be an
 /// object of six members, with the version 2 and rings of `R` cells, and `R` must be at most 64.
 /// Fails with `BadTrace` if it spells none, and with `NoMemory` if memory is refused.
-fn parse_version_2_session<const R: usize>(
+fn parse_version_2_book<const R: usize>(
     alloc: Global,
     value: &Value,
-) -> Result<SavedSession<R>, TraceFault>
+) -> Result<SavedBook<R>, TraceFault>
     requires small { R ≤ MOST_CELLS }
     requires members { member_count (view value.now) ≡ Some 6 }
     requires version { number_at (codes "version") (view value.now) ≡ Some 2 }
@@ -127,7 +124,7 @@ fn parse_version_2_session<const R: usize>(
     let Some(marks) = items_at(value, MARKS) else {
         return Err(TraceFault::BadTrace);
     };
-    Ok(SavedSession {
+    Ok(SavedBook {
         start: parse_start(alloc, start)?,
         marks: parse_marks(alloc, marks)?,
         events: parse_list(alloc, items_at(value, EVENTS))?,

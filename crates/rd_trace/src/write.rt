@@ -2,14 +2,14 @@
 
 ghost use Rattle.std.specs.Prelude.{◌≡◌, false};
 ghost use Rattle.rd_marks.specs.Book.{book_state};
-ghost use Rattle.rd_script.specs.AnyBook.{any_state};
-ghost use Rattle.rd_script.specs.Streams.{sink_stream};
+ghost use Rattle.rd_marks.specs.AnyBook.{any_state};
+ghost use Rattle.rd_devices.specs.Streams.{sink_stream};
 ghost use Rattle.rd_trace.specs.Writing.{WritesTrace};
 
 use super::faults::TraceFault;
 use super::saved::trace_text;
-use rd_marks::Book;
-use rd_script::{AnyBook, Sink, write_all};
+use rd_devices::{Sink, write_all};
+use rd_marks::{AnyBook, Book};
 use std::alloc::Global;
 
 /// Writes a book as a trace of version 2, with a line feed after it: its start, live events, undone

@@ -3,9 +3,9 @@
 use Rattle.rd_view.proofs.Prelude.{zip, arith, map-append, ◌≡◌, ◌∙◌, ℕ, suc, inl, inr, List, [], ◌∷◌, ◌++◌, Ok, Err, Result, map, length, refl, ap, sym, subst, append_assoc, append-nil, AllByRecursion, AllZip, AnswersLine, AnswersSaid, AreAnswered, AreLiveEnds, AskedLive, Book, BookWithHistory, Call, CameOf, Command, Conversed, Continues, Desk, Ghosts, History, IsChain, IsLastCall, IsLiveEnd, IsNewViewer, IsTaskEnd, IsViewerOf, KnowsAfterAsk, NumberedAnswer, NumberedLine, ParsedLine, Pass, RunsLive, Says, ScriptFault, SeesAfter, SinkOf, SourceOf, commands_of, entries, number, numbered_calls, numbered_lines, numbers_from, opened_state, own_answered, own_refused, own_same, pass_of, put_by, seen, viewer_end, viewer_entry, without_number}
 use Rattle.rd_script.proofs.ConversationLemmas.{Converses-weaker, some_answered}
 use Rattle.std.specs.Result.{IfOk}
-use Rattle.rd_script.specs.Calls.{numbered_text}
+use Rattle.rd_text.specs.Calls.{numbered_text}
 use Rattle.rd_script.specs.Conversation.{Converses}
-use Rattle.rd_script.specs.Streams.{devices}
+use Rattle.rd_devices.specs.Streams.{devices}
 use Rattle.rd_view.proofs.ViewingLemmas.{was_answered}
 
 -- one more element has P

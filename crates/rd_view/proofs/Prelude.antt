@@ -12,8 +12,8 @@ pub use Rattle.rd_desk.specs.declared.gates.DeskRefusal.TheVariants.{TicketsEnde
 pub use Rattle.rd_desk.specs.declared.histories.Call.{Call}
 pub use Rattle.rd_desk.specs.declared.histories.History.{History}
 pub use Rattle.rd_desk.specs.declared.recording.BookWithHistory.{BookWithHistory}
-pub use Rattle.rd_script.specs.Headings.{heading_text}
-pub use Rattle.rd_script.specs.declared.writing.headings.Heading.TheVariants.{Viewer}
+pub use Rattle.rd_text.specs.Headings.{heading_text}
+pub use Rattle.rd_text.specs.declared.writing.headings.Heading.TheVariants.{Viewer}
 pub use Rattle.rd_view.specs.Reports.{desk_line_answer, viewers_text, viewer_text}
 pub use Rattle.rd_view.specs.Viewing.{AreAllAnswered, AreParsed, IsBusyOrNoMemory, IsViewed, TicketsStayEnded, ViewOf, ViewsScripts, AskedAll, recorded_calls, view_text}
 pub use Rattle.rd_view.specs.declared.faults.ViewFault.{ViewFault}
@@ -21,8 +21,8 @@ pub use Rattle.std.proofs.lemmas.Iterator.Adapters.{YieldsList-from_vec}
 pub use Rattle.rd_desk.specs.Asking.{IsLastCall, without_number}
 pub use Rattle.rd_desk.specs.Tasks.{IsTaskEnd}
 pub use Rattle.rd_script.specs.Conversation.{AreAnswered}
-pub use Rattle.rd_script.specs.declared.devices.sources.Source.{Ghosts as SourceOf}
-pub use Rattle.rd_script.specs.declared.devices.sinks.Sink.{Ghosts as SinkOf}
-pub use Rattle.rd_script.specs.declared.faults.ScriptFault.{ScriptFault}
+pub use Rattle.rd_devices.specs.declared.sources.Source.{Ghosts as SourceOf}
+pub use Rattle.rd_devices.specs.declared.sinks.Sink.{Ghosts as SinkOf}
+pub use Rattle.rd_devices.specs.declared.faults.ScriptFault.{ScriptFault}
 pub use Rattle.rd_view.specs.Live.{AnswersLine, AnswersSaid, AreLiveEnds, AskedLive, CameOf, Conversed, IsLiveEnd, NumberedAnswer, NumberedLine, RunsLive, numbered_line, numbered_calls, numbered_lines, pass_of, viewer_end}
-pub use Rattle.rd_script.specs.declared.answers.AnyRefusal.TheVariants.{Unread}
+pub use Rattle.rd_text.specs.declared.answers.AnyRefusal.TheVariants.{Unread}

@@ -18,17 +18,17 @@ use Rattle.rd_desk.specs.declared.recording.BookWithHistory.{BookWithHistory}
 use Rattle.rd_desk.specs.Asking.{KnowsAfterAsk, IsLastCall, without_number}
 use Rattle.rd_desk.specs.Desks.{opened_state, IsViewerOf}
 use Rattle.rd_desk.specs.Histories.{entries, IsLeftBy, IsLegal}
-use Rattle.rd_script.specs.declared.answers.AnyRefusal.TheVariants.{Unread}
-use Rattle.rd_script.specs.declared.devices.sources.Source.{Ghosts as SourceOf}
-use Rattle.rd_script.specs.declared.devices.sinks.Sink.{Ghosts as SinkOf}
-use Rattle.rd_script.specs.declared.faults.ScriptFault.{ScriptFault}
-use Rattle.rd_script.specs.Answers.{commands_of}
-use Rattle.rd_script.specs.Calls.{numbered_text}
+use Rattle.rd_text.specs.declared.answers.AnyRefusal.TheVariants.{Unread}
+use Rattle.rd_devices.specs.declared.sources.Source.{Ghosts as SourceOf}
+use Rattle.rd_devices.specs.declared.sinks.Sink.{Ghosts as SinkOf}
+use Rattle.rd_devices.specs.declared.faults.ScriptFault.{ScriptFault}
+use Rattle.rd_text.specs.Lines.{commands_of}
+use Rattle.rd_text.specs.Calls.{numbered_text}
 use Rattle.rd_script.specs.Conversation.{AreAnswered, Converses}
-use Rattle.rd_script.specs.Lines.{ParsedLine}
-use Rattle.rd_script.specs.Replies.{LineAnswer}
-use Rattle.rd_script.specs.Spelling.{Says}
-use Rattle.rd_script.specs.Streams.{devices}
+use Rattle.rd_text.specs.Lines.{ParsedLine}
+use Rattle.rd_text.specs.Replies.{LineAnswer}
+use Rattle.rd_text.specs.Spelling.{Says}
+use Rattle.rd_devices.specs.Streams.{devices}
 use Rattle.rd_view.specs.declared.live.LiveEnd.{LiveEnd}
 use Rattle.rd_view.specs.declared.live.ViewerEnd.{ViewerEnd}
 use Rattle.rd_view.specs.declared.live.ViewerEnd.TheVariants.{Ended, Stopped, NotStarted}

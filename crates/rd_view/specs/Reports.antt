@@ -5,14 +5,14 @@ use Rattle.std.specs.Global.{Global}
 use Rattle.rd_desk.specs.declared.gates.DeskRefusal.TheVariants as desk
 use Rattle.rd_desk.specs.Histories.{Answer}
 use Rattle.rd_desk.specs.declared.histories.Call.{Call}
-use Rattle.rd_script.specs.declared.answers.AnyRefusal.TheVariants.{Refused, HistoryFull, TicketsEnded, Busy, NotRecorded}
-use Rattle.rd_script.specs.declared.writing.headings.Heading.TheVariants.{Viewer, History}
+use Rattle.rd_text.specs.declared.answers.AnyRefusal.TheVariants.{Refused, HistoryFull, TicketsEnded, Busy, NotRecorded}
+use Rattle.rd_text.specs.declared.writing.headings.Heading.TheVariants.{Viewer, History}
 use Rattle.rd_script.specs.Answers.{line_answers, report_of}
-use Rattle.rd_script.specs.Calls.{call_text, command_text}
-use Rattle.rd_script.specs.Headings.{heading_text}
-use Rattle.rd_script.specs.Lines.{ParsedLine}
-use Rattle.rd_script.specs.Replies.{LineAnswer, answer_text}
-use Rattle.rd_script.specs.Spelling.{Says, spelling}
+use Rattle.rd_text.specs.Calls.{call_text, command_text}
+use Rattle.rd_text.specs.Headings.{heading_text}
+use Rattle.rd_text.specs.Lines.{ParsedLine}
+use Rattle.rd_text.specs.Replies.{LineAnswer, answer_text}
+use Rattle.rd_text.specs.Spelling.{Says, spelling}
 use Rattle.rd_cell.specs.declared.refusal.Refusal.TheVariants as refusal
 
 -- the answer to a line, from the desk's answer to the line's command

@@ -13,11 +13,11 @@ use Rattle.rd_desk.specs.Histories.{Answer, entries, IsLeftBy, IsLegal}
 use Rattle.rd_desk.specs.Asking.{SeesAfter, IsRefusalOfAsk}
 use Rattle.rd_desk.specs.Viewers.{IsChain}
 use Rattle.std.specs.List.{AllByRecursion, AllZip}
-use Rattle.rd_script.specs.Device.{TakesBeginning}
-use Rattle.rd_script.specs.Answers.{commands_of}
-use Rattle.rd_script.specs.Lines.{ParsedLine, lines_of}
-use Rattle.rd_script.specs.Spelling.{Says}
-use Rattle.rd_script.specs.Streams.{GetsNothing, Stream}
+use Rattle.rd_devices.specs.Device.{TakesBeginning}
+use Rattle.rd_text.specs.Lines.{commands_of}
+use Rattle.rd_text.specs.Lines.{ParsedLine, lines_of}
+use Rattle.rd_text.specs.Spelling.{Says}
+use Rattle.rd_devices.specs.Streams.{GetsNothing, Stream}
 use Rattle.rd_view.specs.declared.faults.ViewFault.{ViewFault}
 use Rattle.rd_view.specs.declared.viewing.Viewed.{Viewed}
 use Rattle.rd_view.specs.declared.faults.ViewFault.TheVariants as view

@@ -9,18 +9,17 @@ ghost use Rattle.std.specs.List.{AllByRecursion};
 ghost use Rattle.rd_marks.specs.Book.{book_state};
 ghost use Rattle.rd_desk.specs.declared.desks.TheConstants.{MOST_VIEWERS};
 ghost use Rattle.rd_desk.specs.Desks.{opened_state, IsViewerOf};
-ghost use Rattle.rd_script.specs.Calls.{numbered_text};
+ghost use Rattle.rd_text.specs.Calls.{numbered_text};
 ghost use Rattle.rd_view.specs.Viewing.{IsBusyOrNoMemory};
 ghost use Rattle.rd_view.specs.Live.{AnswersLine, IsLive, RunsLive, numbered_line, pass_of, viewer_end};
 
 use super::faults::ViewFault;
 use super::reports::desk_line_answer;
 use rd_desk::{Desk, DeskPass, History, NumberedAnswer, Task, run_tasks};
+use rd_devices::{ScriptFault, Sink, Source};
 use rd_marks::Book;
-use rd_script::{
-    Answerer, AnyRefusal, Line, LineAnswer, ScriptFault, Sink, Source, Text, converse,
-    set_numbered_answer,
-};
+use rd_script::{Answerer, Line, converse};
+use rd_text::{AnyRefusal, LineAnswer, Text, set_numbered_answer};
 use std::alloc::{AllocError, Global};
 use std::sync::Wait;
 use std::thread::Threads;
@@ -165,22 +164,23 @@ impl<'a, W: Wait, const N: usize> Answerer for Viewer<'a, W, DeskPass<N>, N> {
 
     ghost answers = { λ old line answer new. (new.desk ≡ old.desk) × AnswersLine (opened_state old.desk.now) old.pass line answer new.pass };
 
-    /// Asks the command that a line spells, and replaces the text by the reply. If the line spells
-    /// none, the reply is the refusal of its fault, and nothing is asked.
+    /// Asks the command that a line spells, and replaces the text by the line of its answer, after
+    /// the number of the call, or a hyphen if the desk refused it. If the line spells no command,
+    /// the answer is the refusal of its fault, after a hyphen, and nothing is asked.
     fn answer(&mut self, line: &Line, text: &mut Text) {
         match line.command() {
             Err(fault) => set_numbered_answer(text, None, &Err(AnyRefusal::Unread(fault))),
             Ok(command) => {
                 let numbered = self.desk.ask_numbered(self.rt, &mut self.pass, command);
-                set_reply(text, &numbered);
+                set_desk_answer(text, &numbered);
             }
         }
     }
 }
 
-/// Replaces the text by the reply to a command, from the desk's answer: the number of the call, or
-/// a hyphen at a refusal of the desk, and the answer to the line.
-fn set_reply(text: &mut Text, numbered: &NumberedAnswer)
+/// Replaces the text by the line of the desk's answer to a command: the number of the call, or a
+/// hyphen at a refusal of the desk, and the answer.
+fn set_desk_answer(text: &mut Text, numbered: &NumberedAnswer)
     ensures { text.new.items ≡ numbered_text (numbered_line numbered.now).0
         (numbered_line numbered.now).1 }
 {

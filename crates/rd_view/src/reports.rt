@@ -8,14 +8,14 @@
 
 ghost use Rattle.std.specs.Prelude.{◌≡◌, ◌++◌, length, map, IfOk, OnOk};
 ghost use Rattle.rd_script.specs.Answers.{line_answers, report_of};
-ghost use Rattle.rd_script.specs.Replies.{answer_text};
+ghost use Rattle.rd_text.specs.Replies.{answer_text};
 ghost use Rattle.std.specs.List.{AllByRecursion};
 ghost use Rattle.rd_desk.specs.Histories.{entries};
 ghost use Rattle.rd_view.specs.Reports.{SpellsItsCommand, desk_line_answer, history_text, viewer_text, viewers_text};
 
 use rd_cell::Refusal;
 use rd_desk::{Answer, DeskRefusal, History};
-use rd_script::{
+use rd_text::{
     AnyRefusal, Heading, LineAnswer, ParsedLine, Text, set_answer, set_call, set_heading,
 };
 use std::alloc::{AllocError, Global};
@@ -68,24 +68,24 @@ pub fn put_history(text: &mut Vec<u8>, history: &History) -> Result<(), AllocErr
     Ok(())
 }
 
-/// Appends to the text the heading of a viewer, and after it the answers to its lines. If there are
-/// no answers, since its thread was not started, the line `refused 20 NoMemory` comes in their
-/// place. The buffer `line` is overwritten. Fails only if memory is refused; some lines may then
-/// have been appended.
+/// Appends to the text the heading of the viewer of this number, from 1, and after it the answers to
+/// its lines. If there are no answers, since its thread was not started, the line
+/// `refused 20 NoMemory` comes in their place. The buffer `line` is overwritten. Fails only if
+/// memory is refused; some lines may then have been appended.
 fn put_viewer(
     text: &mut Vec<u8>,
     line: &mut Text,
-    number: u64,
-    said: &[ParsedLine],
-    answered: &Option<Vec<Answer>>,
+    viewer: u64,
+    lines: &[ParsedLine],
+    answers: &Option<Vec<Answer>>,
 ) -> Result<(), AllocError>
     ensures { OnOk result (text.new.items
-        ≡ text.old.items ++ viewer_text number said.now answered.now) }
+        ≡ text.old.items ++ viewer_text viewer lines.now answers.now) }
 {
-    set_heading(line, Heading::Viewer(number));
+    set_heading(line, Heading::Viewer(viewer));
     text.extend_from_slice(line.as_slice())?;
-    match answered {
-        Some(answers) => put_report(text, line, said, answers.as_slice()),
+    match answers {
+        Some(answers) => put_report(text, line, lines, answers.as_slice()),
         None => put_answer(text, line, &Err(AnyRefusal::Refused(Refusal::NoMemory))),
     }
 }
@@ -96,15 +96,15 @@ fn put_viewer(
 fn put_report(
     text: &mut Vec<u8>,
     line: &mut Text,
-    said: &[ParsedLine],
+    lines: &[ParsedLine],
     answers: &[Answer],
 ) -> Result<(), AllocError>
     ensures { OnOk result (text.new.items ≡ text.old.items
-        ++ report_of (line_answers said.now (map desk_line_answer answers.now))) }
+        ++ report_of (line_answers lines.now (map desk_line_answer answers.now))) }
 {
     let mut rest = answers;
-    for command in said {
-        let answer = match command {
+    for parsed in lines {
+        let answer = match parsed {
             Err(fault) => Err(AnyRefusal::Unread(*fault)),
             Ok(_) => {
                 let Some((answer, others)) = rest.split_first() else {

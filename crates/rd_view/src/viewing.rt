@@ -8,15 +8,16 @@ ghost use Rattle.std.specs.Prelude.{◌≡◌, ◌≤◌, false, length, map, If
 ghost use Rattle.rd_marks.specs.Book.{book_state};
 ghost use Rattle.rd_desk.specs.declared.desks.TheConstants.{MOST_VIEWERS};
 ghost use Rattle.rd_desk.specs.Histories.{entries, IsLeftBy};
-ghost use Rattle.rd_script.specs.Answers.{commands_of};
-ghost use Rattle.rd_script.specs.Streams.{sink_stream};
+ghost use Rattle.rd_text.specs.Lines.{commands_of};
+ghost use Rattle.rd_devices.specs.Streams.{sink_stream};
 ghost use Rattle.rd_view.specs.Viewing.{AreParsed, IsBusyOrNoMemory, IsMadeBy, IsViewed, ViewsScripts};
 
 use super::faults::ViewFault;
 use super::reports::text_of_view;
 use rd_desk::{Answer, Desk, DeskPass, History, ask_viewers};
+use rd_devices::{Sink, write_all};
 use rd_marks::{Book, Command};
-use rd_script::{ParsedLine, Sink, lines, spelled_commands, write_all};
+use rd_text::{ParsedLine, lines, spelled_commands};
 use std::alloc::{AllocError, Global};
 use std::sync::Wait;
 use std::thread::Threads;

@@ -13,14 +13,15 @@ use Rattle.rd_marks.specs.Commands.{AreObeyed}
 use Rattle.rd_marks.specs.Headline.{Headline}
 use Rattle.rd_marks.specs.declared.commands.Command.TheVariants as command
 use Rattle.rd_script.proofs.Prelude.{◌≡◌, ℕ, List, [], ◌∷◌, Ok, Err, refl, arith, AllZip, map, append-nil}
-use Rattle.rd_script.specs.Lines.{ParsedLine, lines_of}
-use Rattle.rd_script.specs.Spelling.{Says, IsSameCommand}
-use Rattle.rd_script.specs.Answers.{line_answer, line_answers, AreObeyedLines, commands_of, report_of}
-use Rattle.rd_script.specs.Replies.{LineAnswer}
-use Rattle.rd_script.specs.AnyBook.{fresh_state}
-use Rattle.rd_script.specs.Streams.{Devices}
+use Rattle.rd_text.specs.Lines.{ParsedLine, lines_of}
+use Rattle.rd_text.specs.Spelling.{Says, IsSameCommand}
+use Rattle.rd_text.specs.Lines.{commands_of}
+use Rattle.rd_script.specs.Answers.{line_answer, line_answers, AreObeyedLines, report_of}
+use Rattle.rd_text.specs.Replies.{LineAnswer}
+use Rattle.rd_marks.specs.AnyBook.{fresh_state}
+use Rattle.rd_devices.specs.Streams.{Devices}
 use Rattle.rd_script.specs.Script.{RunsScript}
-use Rattle.rd_script.proofs.SayLemmas.{said_as_spelled}
+use Rattle.rd_text.proofs.SayLemmas.{said_as_spelled}
 use Rattle.witness.specs.Session.{last, NoLineLacksMemory, HasOneReport, script, report}
 use Rattle.witness.proofs.OneAnswer.{NoneLacksMemory, one_list}
 use Rattle.witness.proofs.SessionLemmas.{◌also◌, commands, answers, spelled, headline, reported}

@@ -30,10 +30,10 @@ use Rattle.rd_marks.specs.Headline.{Headline}
 use Rattle.rd_marks.specs.declared.commands.Command.TheVariants as command
 use Rattle.rd_marks.specs.declared.replies.Reply.TheVariants as reply
 use Rattle.rd_script.proofs.Prelude.{◌≡◌, ◌++◌, ℕ, List, [], ◌∷◌, Ok, Err, refl, arith, inl, None, Some, AllZip, map}
-use Rattle.rd_script.specs.Lines.{lines_of}
-use Rattle.rd_script.specs.Spelling.{Says}
-use Rattle.rd_script.specs.Replies.{answer_text}
-use Rattle.rd_script.specs.AnyBook.{fresh_state}
+use Rattle.rd_text.specs.Lines.{lines_of}
+use Rattle.rd_text.specs.Spelling.{Says}
+use Rattle.rd_text.specs.Replies.{answer_text}
+use Rattle.rd_marks.specs.AnyBook.{fresh_state}
 use Rattle.rd_script.specs.Answers.{AreObeyedLines, line_answer}
 use Rattle.rd_script.specs.Script.{RunsScript}
 use Rattle.rd_marks.proofs.Headlines.{run_of_live}

@@ -10,9 +10,9 @@ use Rattle.rd_step.specs.Starts.{fresh_world}
 use Rattle.rd_journal.specs.State.{State}
 use Rattle.rd_marks.specs.BookState.{BookState}
 use Rattle.rd_script.specs.Answers.{report_of}
-use Rattle.rd_script.specs.Replies.{LineAnswer}
-use Rattle.rd_script.specs.Streams.{Devices}
-use Rattle.rd_script.specs.declared.answers.AnyRefusal.TheVariants.{Refused}
+use Rattle.rd_text.specs.Replies.{LineAnswer}
+use Rattle.rd_devices.specs.Streams.{Devices}
+use Rattle.rd_text.specs.declared.answers.AnyRefusal.TheVariants.{Refused}
 
 -- the text of these lines, with a line feed after each
 abbrev pub text_of : List (List ℕ) → List ℕ

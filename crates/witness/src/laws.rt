@@ -14,9 +14,9 @@ ghost use Rattle.rd_marks.specs.BookState.{BookState};
 ghost use Rattle.rd_marks.specs.Commands.{Answered, AreObeyed, IsObeyed};
 ghost use Rattle.rd_marks.specs.declared.commands.Command.{Command as SomeCommand};
 ghost use Rattle.rd_marks.specs.declared.replies.Reply.{Reply as SomeReply};
-ghost use Rattle.rd_script.specs.AnyBook.{fresh_state};
+ghost use Rattle.rd_marks.specs.AnyBook.{fresh_state};
 ghost use Rattle.rd_script.specs.Script.{RunsScript};
-ghost use Rattle.rd_script.specs.Streams.{Devices};
+ghost use Rattle.rd_devices.specs.Streams.{Devices};
 ghost use Rattle.witness.specs.Room.{HasRoomFor};
 ghost use Rattle.witness.specs.Session.{third_begins, before_put, put, before_look, look_and_take, but_first, played, state_with, last, script, report, devices_of, HasOneReport};
 

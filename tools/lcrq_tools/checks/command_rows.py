@@ -9,7 +9,7 @@ from pathlib import Path
 
 from lcrq_tools import manual, program
 
-KEYWORDS = program.CRATES / "rd_script" / "src" / "reading" / "keywords.rt"
+KEYWORDS = program.CRATES / "rd_text" / "src" / "reading" / "keywords.rt"
 ROWS = program.CRATES / "test_kit" / "src" / "commands.rt"
 TEXT = re.compile(r'"((?:[^"\\]|\\.)*)"', re.DOTALL)
 # The help's end: a row of forms for each kind of line, and where the manual is.
@@ -39,7 +39,7 @@ def listed_in(text: str) -> set[str]:
     """The lines and places of a help's end."""
     found = HELP.fullmatch(text)
     if not found or not (program.TOP / found[2]).is_file():
-        raise program.Broken("FORMS of rd_script has another form")
+        raise program.Broken("FORMS of rd_text has another form")
     return {form for row in found[1].splitlines() for form in row.split(maxsplit=1)[1].split(", ")}
 
 

@@ -5,7 +5,7 @@
 A row of the stored text, `rehearsed/stdout`, has a command line, what is on standard input, and, as `room`, how
 many bytes standard output takes before it fails, if it does. Then it has the status, and what is on the two
 streams and in the files of replies that `view --live` writes, line by line; `FORMS` in a help stands for that
-constant of rd_script. Where a row opens a file, standard input has another script, so that mixing them up shows.
+constant of rd_text. Where a row opens a file, standard input has another script, so that mixing them up shows.
 Scripts and traces are in `rehearsed/`, and each row runs in a copy of it. What comes of a row was checked by hand
 against the table of control points and the manual. It differs if the program ignores an option, a file or a line,
 or exchanges two commands, faults, streams or statuses.
@@ -31,7 +31,7 @@ from lcrq_tools.program import Ended, lines_of
 
 REHEARSED = Path(__file__).resolve().parent / "rehearsed"
 STORED = REHEARSED / "stdout"
-FORMS = "FORMS"  # the constant of rd_script, and what stands for it
+FORMS = "FORMS"  # the constant of rd_text, and what stands for it
 SHOWN = 60  # letters of a command line in the name of its row
 
 

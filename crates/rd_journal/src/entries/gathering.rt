@@ -83,7 +83,7 @@ pub(crate) fn move_closure_last(
     live - front
 }
 
-/// Returns the slab's entry of this number. There must be such an entry.
+/// Returns the slab's entry of this number, from 0, which must be below the slab's length.
 fn entry_in(slab: &[Entry], number: u32) -> &Entry
     requires { number < length slab.now }
     ensures { result.now ≡ slice_index_or slab.now number result.now }

@@ -13,7 +13,7 @@ use rd_cell::limits::MOST_MARKS;
 use rd_step::Event;
 
 impl<const R: usize> Book<R> {
-    ghost use Rattle.rd_marks.specs.Beginnings.{CountsBeginnings, NeedsNoEntry};
+    ghost use Rattle.rd_marks.specs.Prefixes.{CountsPrefixes, NeedsNoEntry};
     ghost use Rattle.rd_marks.specs.Book.{book_state, name_room, MayRefuseIfGoto};
     ghost use Rattle.rd_marks.specs.BookState.{events_by_name, mark, drop_mark, goto_mark, mark_at, mark_event, GotoMakesSteps, AnswersSame};
     ghost use Rattle.rd_marks.specs.Commands.{IsObeyed, SetsMarkWithoutMemory};
@@ -127,7 +127,7 @@ impl<const R: usize> Book<R> {
     /// Returns the number of different lists, except the empty one, that begin the steps of some
     /// bookmark. The book keeps this many entries for its bookmarks. It takes no memory.
     pub fn nodes(&self) -> u64
-        ensures counts { CountsBeginnings (book_state self.now).marks result }
+        ensures counts { CountsPrefixes (book_state self.now).marks result }
         ensures entries { result ≡ entry_count (stretches_in self.now.bookmarks) }
     {
         self.bookmarks.kept_entry_count() as u64

@@ -1,7 +1,7 @@
 //! Command lines whose reading is refused memory.
 
 use rd_command_line::{Options, OptionsFault, options};
-use rd_script::Ring;
+use rd_marks::Ring;
 use std::alloc::Global;
 use std::process::Abort;
 

@@ -8,7 +8,7 @@ use super::trials::{Trial, look, on_trial};
 use rd_cell::Refusal;
 use rd_desk::{Answer, Desk, DeskPass, DeskRefusal, History};
 use rd_marks::{Book, Command};
-use rd_script::parse_command;
+use rd_text::parse_command;
 use std::alloc::Global;
 use std::process::Abort;
 use std::sync::Wait;

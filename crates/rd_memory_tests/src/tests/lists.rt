@@ -3,7 +3,7 @@
 use super::trials::{Trial, on_trial};
 use rd_cell::Refusal;
 use rd_marks::{Book, Command, Reply};
-use rd_script::{LineFault, lines, parse_command};
+use rd_text::{LineFault, lines, parse_command};
 use std::alloc::Global;
 use std::process::Abort;
 

@@ -1,9 +1,10 @@
 //! Traces that are refused memory while they are written, and while they are loaded.
 
 use super::trials::{has_text, on_trial};
+use rd_devices::{ReadSource, WriteSink};
 use rd_marks::Book;
 use rd_program::{ProgramFault, load_book, play};
-use rd_script::{ReadSource, WriteSink};
+use rd_script::run_any_book;
 use rd_trace::{AnyBook, TraceFault, load_trace, write_trace};
 use std::alloc::Global;
 use std::process::Abort;
@@ -113,7 +114,7 @@ fn is_loaded(rt: &impl Abort, alloc: Global, row: &Row, page: &mut Vec<u8>) -> b
         None => false,
         Some(mut book) => {
             let script = &mut ReadSource::new(row.script);
-            let played = book.run(script, &mut WriteSink::new(&mut *page));
+            let played = run_any_book(script, &mut WriteSink::new(&mut *page), &mut book);
             assert!(rt; played.is_ok() && has_text(page, row.report));
             true
         }

@@ -2,9 +2,10 @@
 //! must be as it was, and the line is played again.
 
 use rd_cell::Refusal;
+use rd_devices::{ReadSource, WriteSink};
 use rd_journal::Session;
 use rd_marks::{Book, Command};
-use rd_script::{ReadSource, WriteSink, run};
+use rd_script::run;
 use rd_step::World;
 use std::alloc::Global;
 use std::process::Abort;

@@ -1,7 +1,7 @@
 //! Views that are refused memory.
 
 use super::trials::{Trial, on_trial};
-use rd_script::WriteSink;
+use rd_devices::WriteSink;
 use rd_view::{ViewFault, view_scripts};
 use std::alloc::Global;
 use std::process::Abort;

@@ -2,7 +2,7 @@
 
 use clap::Error;
 use rd_command_line::{Options, OptionsFault, options};
-use rd_script::Ring;
+use rd_marks::Ring;
 use std::alloc::{AllocError, Global};
 use std::process::Abort;
 

@@ -2,8 +2,8 @@
 
 use rd_cell::Refusal;
 use rd_desk::Busy;
+use rd_devices::{ScriptFault, WriteSink};
 use rd_program::{Done, ProgramFault, show_program_fault};
-use rd_script::{ScriptFault, WriteSink};
 use rd_step::Flaw;
 use rd_trace::TraceFault;
 use rd_view::{ViewFault, ViewerEnd};

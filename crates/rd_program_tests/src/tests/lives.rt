@@ -1,7 +1,8 @@
 //! Viewers that are there at once, whose lines are in memory: what is written when all have ended.
 
+use rd_devices::{ReadSource, ScriptFault, WriteSink};
+use rd_marks::{AnyBook, Ring};
 use rd_program::{ProgramFault, ViewExtras, view_live};
-use rd_script::{AnyBook, ReadSource, Ring, ScriptFault, WriteSink};
 use rd_view::{Terminal, ViewFault, ViewerEnd};
 use std::alloc::Global;
 use std::io;

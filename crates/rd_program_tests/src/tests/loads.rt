@@ -3,8 +3,8 @@
 
 ghost use Rattle.std.specs.Prelude.{◌≡◌, false};
 
+use rd_devices::{ReadSource, Sink, WriteSink};
 use rd_program::{ProgramFault, load_book, play, read_whole_text};
-use rd_script::{ReadSource, Sink, WriteSink};
 use rd_trace::TraceFault;
 use std::alloc::Global;
 use std::io;

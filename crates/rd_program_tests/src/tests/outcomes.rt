@@ -1,7 +1,7 @@
 //! How the program ends where its words give no options.
 
 use rd_command_line::{OptionsFault, not_utf8_fault, run_command_line};
-use rd_script::{ReadSource, WriteSink};
+use rd_devices::{ReadSource, WriteSink};
 use std::alloc::{AllocError, Global};
 use std::fs::Files;
 use std::process::{Abort, ExitCode};

@@ -1,7 +1,8 @@
 //! Scripts as the program runs them: over the fresh world of the options' actors and ring.
 
+use rd_devices::{ReadSource, WriteSink};
+use rd_marks::Ring;
 use rd_program::{Setup, fresh_book, play};
-use rd_script::{ReadSource, Ring, WriteSink};
 use std::alloc::Global;
 use std::process::Abort;
 

@@ -13,9 +13,10 @@ mod starts;
 mod texts;
 
 use rd_cell::Refusal;
+use rd_devices::{ReadSource, WriteSink};
 use rd_journal::Session;
 use rd_marks::Book;
-use rd_script::{ReadSource, WriteSink, run};
+use rd_script::run;
 use rd_step::World;
 use rd_trace::{AnyBook, TraceFault, load_trace, write_trace};
 use std::alloc::Global;

@@ -3,8 +3,9 @@
 ghost use Rattle.std.specs.Prelude.{◌≡◌, ◌≤◌, false, length};
 ghost use Rattle.rd_desk.specs.declared.desks.TheConstants.{MOST_VIEWERS};
 
+use rd_devices::{Sink, WriteSink};
+use rd_marks::Ring;
 use rd_program::{ProgramFault, Setup, ViewExtras, fresh_book, view_book};
-use rd_script::{Ring, Sink, WriteSink};
 use rd_view::ViewFault;
 use std::alloc::Global;
 use std::process::Abort;

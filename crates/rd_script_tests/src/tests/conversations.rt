@@ -1,7 +1,8 @@
 //! A conversation: each line is answered before more is read.
 
 use super::runs::poised;
-use rd_script::{ReadSource, WriteSink, run};
+use rd_devices::{ReadSource, WriteSink};
+use rd_script::run;
 use std::cell::Cell;
 use std::io;
 use std::io::{Read, Write};

@@ -1,7 +1,8 @@
 //! Devices that fail, take little or are interrupted.
 
 use super::runs::poised;
-use rd_script::{ReadSource, ScriptFault, WriteSink, run};
+use rd_devices::{ReadSource, ScriptFault, WriteSink};
+use rd_script::run;
 use std::alloc::Global;
 use std::io;
 use std::io::{Read, Write};

@@ -1,7 +1,8 @@
 //! Lines that a hostile script may have: each is refused alone, and the next line is done.
 
 use super::runs::poised;
-use rd_script::{ReadSource, WriteSink, run};
+use rd_devices::{ReadSource, WriteSink};
+use rd_script::run;
 use std::alloc::Global;
 use std::process::Abort;
 

@@ -2,7 +2,8 @@
 //! but after an interruption it is.
 
 use super::runs::poised;
-use rd_script::{ReadSource, ScriptFault, WriteSink, run};
+use rd_devices::{ReadSource, ScriptFault, WriteSink};
+use rd_script::run;
 use std::alloc::Global;
 use std::io;
 use std::io::{ErrorKind, Read, Write};

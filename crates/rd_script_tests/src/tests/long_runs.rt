@@ -4,8 +4,10 @@
 ghost use Rattle.std.specs.Prelude.{◌≤◌};
 
 use super::runs::fresh;
+use rd_devices::{ReadSource, WriteSink};
 use rd_marks::Command;
-use rd_script::{LineFault, ReadSource, WriteSink, lines, run};
+use rd_script::run;
+use rd_text::{LineFault, lines};
 use std::alloc::Global;
 use std::process::Abort;
 use std::test::Fail;

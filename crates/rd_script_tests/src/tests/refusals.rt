@@ -2,8 +2,10 @@
 
 use super::line_is;
 use rd_cell::Refusal;
-use rd_script::{AnyRefusal, LineFault, ScriptFault, WriteSink, write_answer};
+use rd_devices::{ScriptFault, WriteSink};
+use rd_script::write_answer;
 use rd_step::Flaw;
+use rd_text::{AnyRefusal, LineFault};
 use std::alloc::Global;
 use std::process::Abort;
 

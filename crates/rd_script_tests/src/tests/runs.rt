@@ -2,9 +2,10 @@
 
 ghost use Rattle.std.specs.Prelude.{◌≤◌};
 
+use rd_devices::{ReadSource, WriteSink};
 use rd_journal::Session;
 use rd_marks::Book;
-use rd_script::{ReadSource, WriteSink, run};
+use rd_script::run;
 use rd_step::World;
 use std::alloc::Global;
 use std::process::Abort;

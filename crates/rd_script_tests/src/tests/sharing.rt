@@ -2,7 +2,7 @@
 
 use super::runs::fresh;
 use rd_marks::Book;
-use rd_script::parse_command;
+use rd_text::parse_command;
 use std::alloc::Global;
 use std::process::Abort;
 

@@ -3,7 +3,7 @@
 
 use super::runs::{Shown, over_poised, poised, report_is};
 use rd_marks::Command;
-use rd_script::{Heading, LineFault, Text, lines, set_heading};
+use rd_text::{Heading, LineFault, Text, lines, set_heading};
 use std::alloc::Global;
 use std::process::Abort;
 

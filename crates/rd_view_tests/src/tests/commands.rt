@@ -5,7 +5,7 @@ ghost use Rattle.rd_desk.specs.Desks.{IsViewerOf};
 use super::calls::{fresh, last_pass};
 use rd_desk::{Answer, Desk, DeskPass};
 use rd_marks::Command;
-use rd_script::{AnyRefusal, Text, parse_command, set_answer, set_call};
+use rd_text::{AnyRefusal, Text, parse_command, set_answer, set_call};
 use std::process::Abort;
 use std::sync::Wait;
 use test_kit::ASKED;

@@ -1,7 +1,7 @@
 //! Viewers that are there at once, at terminals in memory.
 
 use super::calls::fresh;
-use rd_script::{ReadSource, ScriptFault, WriteSink};
+use rd_devices::{ReadSource, ScriptFault, WriteSink};
 use rd_view::{Terminal, ViewerEnd, run_live};
 use std::alloc::Global;
 use std::io::{self, ErrorKind, Write};

@@ -3,7 +3,7 @@
 use rd_cell::Refusal;
 use rd_desk::Answer;
 use rd_marks::{Command, Reply};
-use rd_script::{LineFault, ParsedLine};
+use rd_text::{LineFault, ParsedLine};
 use rd_view::text_of_view;
 use std::alloc::{AllocError, Global};
 use std::process::Abort;

@@ -1,9 +1,9 @@
 //! Views of scripts: each viewer in its own thread, over one desk.
 
 use rd_cell::Refusal;
+use rd_devices::WriteSink;
 use rd_journal::Session;
 use rd_marks::Book;
-use rd_script::WriteSink;
 use rd_step::World;
 use rd_view::view_scripts;
 use std::alloc::Global;

@@ -1,7 +1,7 @@
 use Rattle.std.proofs.Common.{inl, inr, refl}
 use Rattle.std.proofs.KnownBytes.{Keeps-refl}
-use Rattle.rd_script.specs.Streams.{devices}
-use Rattle.rd_script.proofs.ResultLemmas.{passed_up}
+use Rattle.rd_devices.specs.Streams.{devices}
+use Rattle.rd_devices.proofs.ResultLemmas.{passed_up}
 use Rattle.rd_command_line.specs.Answering.{ResumesFile}
 use Rattle.rd_command_line.proofs.answering.resume_file.Goals as goal
 

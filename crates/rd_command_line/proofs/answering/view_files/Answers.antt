@@ -1,6 +1,6 @@
 use Rattle.std.proofs.Common.{inr, length}
 use Rattle.std.proofs.KnownBytes.{Keeps-refl}
-use Rattle.rd_script.specs.Streams.{sink_stream}
+use Rattle.rd_devices.specs.Streams.{sink_stream}
 use Rattle.rd_command_line.proofs.AnsweringLemmas.{not_viewed}
 use Rattle.rd_command_line.proofs.answering.view_files.Goals as goal
 

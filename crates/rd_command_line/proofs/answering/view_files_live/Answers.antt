@@ -1,6 +1,6 @@
 use Rattle.std.proofs.Common.{inr}
-use Rattle.rd_script.specs.AnyBook.{any_state}
-use Rattle.rd_script.specs.Streams.{reader_source, sink_stream, writer_sink}
+use Rattle.rd_marks.specs.AnyBook.{any_state}
+use Rattle.rd_devices.specs.Streams.{reader_source, sink_stream, writer_sink}
 use Rattle.rd_command_line.specs.Answering.{OpensFiles}
 use Rattle.rd_command_line.proofs.LiveLemmas.{views_named}
 use Rattle.rd_command_line.proofs.answering.view_files_live.Goals as goal

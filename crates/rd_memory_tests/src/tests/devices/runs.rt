@@ -1,8 +1,9 @@
 //! Runs of a script over devices that fail at each of their calls.
 
 use super::super::trials::{Trial, has_text, on_trial, plays};
+use rd_devices::{ReadSource, ScriptFault, WriteSink};
 use rd_marks::Book;
-use rd_script::{ReadSource, ScriptFault, WriteSink, run};
+use rd_script::run;
 use std::alloc::Global;
 use std::process::Abort;
 use test_kit::{End, Limit, LimitedReader, LimitedWriter};

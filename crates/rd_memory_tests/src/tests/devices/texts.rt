@@ -3,8 +3,8 @@
 
 use super::super::trials::on_trial;
 use super::super::{traces, views};
+use rd_devices::WriteSink;
 use rd_marks::Book;
-use rd_script::WriteSink;
 use rd_trace::{TraceFault, write_trace};
 use rd_view::ViewFault;
 use std::alloc::Global;

@@ -1,5 +1,5 @@
 use Rattle.std.proofs.Common.{codes}
-use Rattle.rd_script.specs.Streams.{sink_stream}
+use Rattle.rd_devices.specs.Streams.{sink_stream}
 use Rattle.rd_program.proofs.EndingLemmas.{takes_both, takes_front}
 use Rattle.rd_program.proofs.endings.write_error_line.Goals as goal
 

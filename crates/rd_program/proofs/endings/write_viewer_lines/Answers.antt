@@ -1,4 +1,4 @@
-use Rattle.rd_script.specs.Streams.{sink_stream}
+use Rattle.rd_devices.specs.Streams.{sink_stream}
 use Rattle.rd_program.proofs.EndingLemmas.{takes_line, takes_part}
 use Rattle.rd_program.proofs.endings.write_viewer_lines.Goals as goal
 

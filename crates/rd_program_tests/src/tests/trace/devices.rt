@@ -1,8 +1,8 @@
 //! Sinks that fail or take little.
 
 use super::played;
+use rd_devices::WriteSink;
 use rd_marks::Book;
-use rd_script::WriteSink;
 use rd_trace::{TraceFault, write_trace};
 use std::alloc::Global;
 use std::process::Abort;

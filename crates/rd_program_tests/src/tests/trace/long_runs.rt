@@ -4,7 +4,9 @@
 ghost use Rattle.std.specs.Prelude.{◌≤◌};
 
 use super::AnyBook;
-use rd_script::{ReadSource, Ring, WriteSink};
+use rd_devices::{ReadSource, WriteSink};
+use rd_marks::Ring;
+use rd_script::run_any_book;
 use rd_trace::{load_trace, write_any_trace};
 use std::alloc::Global;
 use std::process::Abort;
@@ -26,8 +28,7 @@ fn book_of(rt: &impl Abort, alloc: Global, script: &str, ring: Ring, actors: u8)
     let mut book = AnyBook::fresh(alloc, ring, actors).expect(rt, "out of memory");
     let mut report = Vec::new(alloc);
     let script = &mut ReadSource::new(script.as_bytes());
-    book.run(script, &mut WriteSink::new(&mut report))
-        .expect(rt, "not played");
+    run_any_book(script, &mut WriteSink::new(&mut report), &mut book).expect(rt, "not played");
     book
 }
 

@@ -4,7 +4,8 @@
 ghost use Rattle.std.specs.Prelude.{◌≤◌};
 
 use super::{Lines, again, played, report, written};
-use rd_script::{ReadSource, WriteSink};
+use rd_devices::{ReadSource, WriteSink};
+use rd_script::run_any_book;
 use rd_trace::{AnyBook, load_trace};
 use std::alloc::{AllocError, Global};
 use std::process::Abort;
@@ -64,8 +65,7 @@ pub(super) fn loaded_report(rt: &impl Abort, alloc: Global, script: &str, text: 
     let mut book: AnyBook = load_trace(alloc, text).expect(rt, "no trace");
     let mut report = Vec::new(alloc);
     let script = &mut ReadSource::new(script.as_bytes());
-    book.run(script, &mut WriteSink::new(&mut report))
-        .expect(rt, "not played");
+    run_any_book(script, &mut WriteSink::new(&mut report), &mut book).expect(rt, "not played");
     report
 }
 

@@ -2,7 +2,7 @@
 -- of loading the text. It gives back the book of a text that was written, since a text is one
 -- trace at most.
 use Rattle.rd_trace.proofs.Prelude.{◌≡◌, inl, inr, codes, Some, refl, view, number_at}
-use Rattle.rd_script.specs.declared.any_book.AnyBook.TheVariants.{Two, Four, Eight}
+use Rattle.rd_marks.specs.declared.any_book.AnyBook.TheVariants.{Two, Four, Eight}
 use Rattle.rd_trace.proofs.LoadLemmas.{loads_any}
 use Rattle.rd_trace.proofs.OneAnswer.{loads_again}
 use Rattle.rd_trace.proofs.load.load_trace.Goals as goal

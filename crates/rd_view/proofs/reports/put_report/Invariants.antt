@@ -2,5 +2,5 @@ use Rattle.rd_view.proofs.Prelude.{◌≡◌, ◌++◌, drop, map, desk_line_ans
 use Rattle.rd_view.proofs.reports.put_report.Given as goal
 
 -- the answers to the lines before this one are in the text
-abbrev pub invariant-loop-command : goal.invariant-loop-command
-invariant-loop-command l = l.text.items ++ report_of (line_answers (drop l.command-index l.said) (map desk_line_answer l.rest)) ≡ l.initial.text.items ++ report_of (line_answers l.said (map desk_line_answer l.answers))
+abbrev pub invariant-loop-parsed : goal.invariant-loop-parsed
+invariant-loop-parsed l = l.text.items ++ report_of (line_answers (drop l.parsed-index l.lines) (map desk_line_answer l.rest)) ≡ l.initial.text.items ++ report_of (line_answers l.lines (map desk_line_answer l.answers))

@@ -6,7 +6,12 @@ pub returns-in-Err-clause-answers : goal.returns-in-Err-clause-answers
 returns-in-Err-clause-answers g c bytes held =
     (Err (Unread c.in-Err.fault), (Err c.in-Err.fault, c.in-Err.ensures bytes held, (refl, refl), refl), c.set_refusal.ensures)
 
-pub returns-in-Ok-clause-answers : goal.returns-in-Ok-clause-answers
-returns-in-Ok-clause-answers g c bytes held =
-    let done = c.answer_command.ensures.answers in
-    (line_answer done.0, (Ok c.in-Ok.command, c.in-Ok.ensures bytes held, (done.0, done.1, refl), c.answer_command.ensures.start), done.4)
+pub returns-in-Err-obey-clause-answers : goal.returns-in-Err-obey-clause-answers
+returns-in-Err-obey-clause-answers g c bytes held =
+    let refused = Err c.in-Err-obey.refusal in
+    (line_answer refused, (Ok c.in-Ok.command, c.in-Ok.ensures bytes held, (refused, c.in-Err-obey.ensures.answer, refl), c.in-Err-obey.ensures.start), c.set_refusal-in-Err-obey.ensures)
+
+pub returns-in-Ok-obey-clause-answers : goal.returns-in-Ok-obey-clause-answers
+returns-in-Ok-obey-clause-answers g c bytes held =
+    let replied = Ok c.in-Ok-obey.reply in
+    (line_answer replied, (Ok c.in-Ok.command, c.in-Ok.ensures bytes held, (replied, c.in-Ok-obey.ensures.answer, refl), c.in-Ok-obey.ensures.start), c.set_reply.ensures)

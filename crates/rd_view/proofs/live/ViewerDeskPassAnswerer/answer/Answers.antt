@@ -7,4 +7,4 @@ returns-in-Err-clause-answers g c bytes held = ((None, Err (Unread c.in-Err.faul
 pub returns-in-Ok-clause-answers : goal.returns-in-Ok-clause-answers
 returns-in-Ok-clause-answers g c bytes held =
     let asked = c.ask_numbered-numbered in
-    (numbered_line asked.result, (refl, (Ok c.in-Ok.command, c.in-Ok.ensures bytes held, (asked.result, refl, asked.ensures.outcome, asked.ensures.number))), c.set_reply.ensures)
+    (numbered_line asked.result, (refl, (Ok c.in-Ok.command, c.in-Ok.ensures bytes held, (asked.result, refl, asked.ensures.outcome, asked.ensures.number))), c.set_desk_answer.ensures)

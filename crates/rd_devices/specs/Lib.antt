@@ -1,0 +1,3 @@
+pub mod Device
+pub mod Portions
+pub mod Streams

@@ -1,6 +1,0 @@
-use Rattle.rd_equivalence.proofs.Prelude.{reached_of, left_of}
-use Rattle.rd_equivalence.proofs.ComparingLemmas.{IsLeftToCompare}
-use Rattle.rd_equivalence.proofs.equivalence.rests_are_equivalent.Given as goal
-
-abbrev pub invariant-loop-entry : goal.invariant-loop-entry
-invariant-loop-entry l = IsLeftToCompare l.a l.b l.entry-index (reached_of l.reached) (left_of l.left)

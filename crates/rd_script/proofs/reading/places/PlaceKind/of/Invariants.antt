@@ -1,7 +1,0 @@
-use Rattle.rd_script.proofs.Prelude.{◌≢◌, ℕ, ◌<◌, slice_index_or, kind_text}
-use Rattle.rd_script.specs.declared.reading.places.PlaceKind.TheVariants as kind
-use Rattle.rd_script.proofs.reading.places.PlaceKind.of.Given as goal
-
--- the word is none of the kinds before this one
-abbrev pub invariant-loop-kind : goal.invariant-loop-kind
-invariant-loop-kind l = (k : ℕ) → k < l.kind-index → l.word ≢ kind_text (slice_index_or l.kind-items k kind.QHead)

@@ -1,0 +1,14 @@
+pub mod Puts
+pub mod Texts
+pub mod Contents
+pub mod Grammar
+pub mod Spelling
+pub mod Reading
+pub mod Events
+pub mod Actors
+pub mod Steps
+pub mod Refusals
+pub mod Replies
+pub mod Headings
+pub mod Lines
+pub mod Calls
