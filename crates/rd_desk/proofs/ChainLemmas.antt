@@ -1,5 +1,5 @@
 -- Chains of answers by a gate, and lists whose elements are related pairwise.
-use Rattle.rd_desk.proofs.Prelude.{map, Option, Vec, ◌≡◌, ℕ, List, [], ◌∷◌, ◌++◌, length, arith, ◌+◌, ◌<◌, ◌≤◌, get_or, take, add-one, AllByRecursion, AllZip, Answer, Command, Global, IsChain, IsDone, IsRunEnding, all_zipped_more, run_ending, suc, subst, sym, take-suc, zero, zip}
+use Rattle.rd_desk.proofs.Prelude.{map, Option, Vec, ◌≡◌, ℕ, List, [], ◌∷◌, ◌++◌, length, arith, ◌+◌, ◌<◌, ◌≤◌, get_or, take, add-one, AllByRecursion, AllZip, Answer, Command, Global, IsChain, IsDone, IsRunEnding, all_zipped_more, run_ending, subst, sym, take-suc, zip}
 
 module _ {P : Type 0} (told : P → Command → Answer → P → Type 0) where
   -- asking one more command makes a chain longer
@@ -23,12 +23,6 @@ module _ {A B : Type 0} (R : A → B → Type 0) where
   pub AllZip-with_each : (P : A → Type 0) (xs : List A) (ys : List B) → AllByRecursion P xs → AllZip R xs ys → AllZip (λ x y. P x × R x y) xs ys
   AllZip-with_each P [] ys each h = grind arith
   AllZip-with_each P (x ∷ xs) ys each h = grind (arith, AllZip-with_each P xs)
-
--- where each x has P, so does the one that a loop over the list takes
-pub each_turn : {A : Type 0} (P : A → Type 0) (xs : List A) (i : ℕ) (x : A) → (i < length xs) × (x ≡ get_or xs i x) → AllByRecursion P xs → P x
-each_turn P [] i x turn each = absurd (omega arith)
-each_turn P (y ∷ ys) zero x turn each = rw turn.1 each.0
-each_turn P (y ∷ ys) (suc i) x turn each = each_turn P ys i x (omega arith, turn.1) each.1
 
 -- where each x has P and is related to its y, so is the pair that a loop over the zipped lists takes
 pub AllZip-turn : {A B : Type 0} (R : A → B → Type 0) (P : A → Type 0) (xs : List A) (ys : List B) (i : ℕ) (p : A × B) → (i < length (zip xs ys)) × (p ≡ get_or (zip xs ys) i p) → AllByRecursion P xs → AllZip R xs ys → P p.0 × R p.0 p.1

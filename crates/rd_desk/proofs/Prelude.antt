@@ -15,7 +15,6 @@ pub use Rattle.rd_desk.specs.Asking.{IsLastCall, IsRefusalOfAsk, KnowsAfterAsk, 
 pub use Rattle.rd_desk.specs.Desks.{IsNewViewer, IsViewerOf, opened_state}
 pub use Rattle.rd_desk.specs.Histories.{Answer, IsCapacity, IsLeftBy, IsLegal, LeavesHistory, entries, viewer_entry}
 pub use Rattle.rd_desk.specs.Rooms.{IsRoomFor}
-pub use Rattle.rd_desk.specs.Tasks.{IsTaskEnd, IsTaskJoined, IsTaskStarted}
 pub use Rattle.rd_desk.specs.Threads.{IsJoined, IsStarted}
 pub use Rattle.rd_desk.specs.Viewers.{IsChain, IsDone, IsRunEnding, run_ending}
 pub use Rattle.rd_desk.specs.declared.gates.DeskRefusal.{DeskRefusal}

@@ -4,4 +4,3 @@ pub mod Asking
 pub mod Viewers
 pub mod Rooms
 pub mod Threads
-pub mod Tasks

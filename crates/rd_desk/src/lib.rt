@@ -13,7 +13,6 @@ mod histories;
 pub mod laws;
 mod recording;
 mod rooms;
-mod tasks;
 mod threads;
 mod viewers;
 
@@ -22,5 +21,4 @@ pub use gates::{Answer, DeskRefusal, Gate, NumberedAnswer};
 pub use histories::{Call, History, MOST_CALLS};
 pub use rd_lock::{Busy, NoMemory};
 pub use recording::BookWithHistory;
-pub use tasks::{Task, run_tasks};
 pub use viewers::{Ran, ask_viewers, run_viewers};

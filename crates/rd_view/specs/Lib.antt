@@ -1,3 +1,4 @@
 pub mod Reports
 pub mod Viewing
 pub mod Live
+pub mod Tasks

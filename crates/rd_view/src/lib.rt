@@ -6,6 +6,7 @@ mod faults;
 pub mod laws;
 mod live;
 mod reports;
+mod tasks;
 mod viewing;
 
 pub use faults::ViewFault;

@@ -15,7 +15,8 @@ ghost use Rattle.rd_view.specs.Live.{AnswersLine, IsLive, RunsLive, numbered_lin
 
 use super::faults::ViewFault;
 use super::reports::desk_line_answer;
-use rd_desk::{Desk, DeskPass, History, NumberedAnswer, Task, run_tasks};
+use super::tasks::{Task, run_tasks};
+use rd_desk::{Desk, DeskPass, History, NumberedAnswer};
 use rd_devices::{ScriptFault, Sink, Source};
 use rd_marks::Book;
 use rd_script::{Answerer, Line, converse};

@@ -2,7 +2,7 @@
 -- `Task` describes it.
 use Rattle.std.specs.Prelude.{◌≡◌, Result, Ok, Err}
 use Rattle.std.specs.declared.thread.PromisedHandle.{PromisedHandle}
-use Rattle.rd_desk.specs.declared.tasks.Given.{Given}
+use Rattle.rd_view.specs.declared.tasks.Given.{Given}
 
 module _ {T D : Type 0} (runs : T → D → Type 0) where
   -- what came of a task: it was done and gave this back, or it is as it was, and was not done

@@ -1,8 +1,14 @@
-use Rattle.rd_desk.proofs.Prelude.{◌≤◌, ◌∙◌, ap, length, subst, sym, map-id, AllZip, IsTaskStarted, YieldsList-end, YieldsList-from_vec, YieldsList-turn, all_zipped_more, sendable}
-use Rattle.rd_desk.proofs.ChainLemmas.{each_turn}
+use Rattle.std.specs.Prelude.{get_or}
+use Rattle.rd_view.proofs.Prelude.{◌≡◌, ◌<◌, ◌≤◌, ◌∙◌, ℕ, zero, suc, List, [], ◌∷◌, ap, arith, length, subst, sym, map-id, AllByRecursion, AllZip, IsTaskStarted, YieldsList-end, YieldsList-from_vec, YieldsList-turn, all_zipped_more, sendable}
 use Rattle.rd_desk.proofs.RoomLemmas.{one_each, room_left}
-use Rattle.rd_desk.proofs.tasks.start_tasks.Goals as goal
-use Rattle.rd_desk.proofs.tasks.start_tasks.Goals.{in-Ok, in-Err}
+use Rattle.rd_view.proofs.tasks.start_tasks.Goals as goal
+use Rattle.rd_view.proofs.tasks.start_tasks.Goals.{in-Ok, in-Err}
+
+-- where each x has P, so does the one that a loop over the list takes
+each_turn : {A : Type 0} (P : A → Type 0) (xs : List A) (i : ℕ) (x : A) → (i < length xs) × (x ≡ get_or xs i x) → AllByRecursion P xs → P x
+each_turn P [] i x turn each = absurd (omega arith)
+each_turn P (y ∷ ys) zero x turn each = rw turn.1 each.0
+each_turn P (y ∷ ys) (suc i) x turn each = each_turn P ys i x (omega arith, turn.1) each.1
 
 pub spawn_with-handle-requires-clause-runs : goal.spawn_with-handle-requires-clause-runs
 spawn_with-handle-requires-clause-runs g c κs met =

@@ -1,5 +1,5 @@
-use Rattle.rd_desk.proofs.Prelude.{◌≡◌, ◌≤◌, length, vec_len, vec_capacity, AllZip, IsTaskJoined}
-use Rattle.rd_desk.proofs.tasks.join_tasks.Given as goal
+use Rattle.rd_view.proofs.Prelude.{◌≡◌, ◌≤◌, length, vec_len, vec_capacity, AllZip, IsTaskJoined}
+use Rattle.rd_view.proofs.tasks.join_tasks.Given as goal
 
 abbrev pub invariant-loop-handle : goal.invariant-loop-handle
 invariant-loop-handle g l = record {

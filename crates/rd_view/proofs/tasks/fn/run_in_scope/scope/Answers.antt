@@ -1,6 +1,6 @@
-use Rattle.rd_desk.proofs.Prelude.{arith, AllZip-long, IsTaskEnd, IsTaskJoined, IsTaskStarted}
+use Rattle.rd_view.proofs.Prelude.{arith, AllZip-long, IsTaskEnd, IsTaskJoined, IsTaskStarted}
 use Rattle.rd_desk.proofs.ChainLemmas.{AllZip-compose}
-use Rattle.rd_desk.proofs.tasks.fn.run_in_scope.scope.Goals as goal
+use Rattle.rd_view.proofs.tasks.fn.run_in_scope.scope.Goals as goal
 
 pub join_tasks-requires-clause-ends : goal.join_tasks-requires-clause-ends
 join_tasks-requires-clause-ends g c κs met = let long = AllZip-long _ _ _ c.start_tasks-started.ensures in (c.requires.ends.0, omega arith)

@@ -1,5 +1,5 @@
-use Rattle.rd_desk.proofs.Prelude.{◌≡◌, ◌≤◌, length, vec_len, vec_capacity, AllZip, IsTaskStarted}
-use Rattle.rd_desk.proofs.tasks.start_tasks.Given as goal
+use Rattle.rd_view.proofs.Prelude.{◌≡◌, ◌≤◌, length, vec_len, vec_capacity, AllZip, IsTaskStarted}
+use Rattle.rd_view.proofs.tasks.start_tasks.Given as goal
 
 abbrev pub invariant-loop-task : goal.invariant-loop-task
 invariant-loop-task g l = record {

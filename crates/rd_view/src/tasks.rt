@@ -6,7 +6,7 @@
 
 ghost use Rattle.std.specs.Prelude.{◌≡◌, ◌≤◌, [], length, vec_capacity, IfOk, IfErr};
 ghost use Rattle.std.specs.List.{AllByRecursion, AllZip};
-ghost use Rattle.rd_desk.specs.Tasks.{IsTaskEnd, IsTaskStarted, IsTaskJoined};
+ghost use Rattle.rd_view.specs.Tasks.{IsTaskEnd, IsTaskStarted, IsTaskJoined};
 
 use rd_lock::NoMemory;
 use std::alloc::Global;
@@ -17,7 +17,7 @@ use std::thread;
 use std::thread::{Promise, PromisedHandle, Scope, Threads};
 
 /// What is done in a thread of its own.
-pub trait Task {
+pub(crate) trait Task {
     /// What it gives back.
     type Done: Send + Drop;
 
@@ -58,7 +58,7 @@ impl<T: Task> Promise<TaskEnd<T>> for Given<T> {
 ///
 /// `NoMemory` if memory for the threads' handles or for the result was refused. It gives the tasks
 /// back, and no task was done.
-pub fn run_tasks<R: Threads + Wait + Sync, T: Task + Send + Drop>(
+pub(crate) fn run_tasks<R: Threads + Wait + Sync, T: Task + Send + Drop>(
     rt: &R,
     alloc: Global,
     tasks: Vec<T>,

@@ -1,7 +1,7 @@
-use Rattle.rd_desk.proofs.Prelude.{◌∙◌, ◌≤◌, length, subst, sym, map-id, AllZip, IsTaskEnd, IsTaskJoined, YieldsList-end, YieldsList-from_vec, YieldsList-turn, all_zipped_more}
+use Rattle.rd_view.proofs.Prelude.{◌∙◌, ◌≤◌, length, subst, sym, map-id, AllZip, IsTaskEnd, IsTaskJoined, YieldsList-end, YieldsList-from_vec, YieldsList-turn, all_zipped_more}
 use Rattle.rd_desk.proofs.RoomLemmas.{one_each, room_left}
-use Rattle.rd_desk.proofs.tasks.join_tasks.Goals as goal
-use Rattle.rd_desk.proofs.tasks.join_tasks.Goals.{in-Err, in-Ok}
+use Rattle.rd_view.proofs.tasks.join_tasks.Goals as goal
+use Rattle.rd_view.proofs.tasks.join_tasks.Goals.{in-Err, in-Ok}
 
 pub loop-handle-preserved : goal.loop-handle-preserved
 loop-handle-preserved g c = record {
