@@ -166,7 +166,7 @@ operate-place p op o = grind arith
 pub make-place : (s : SegName) (given : Contents) → IfOk (make s given) (λ did. did.place ≡ Some (place.Whole s))
 make-place s given = grind arith
 
--- an operation's record names the place of its access
+-- what an access did names the place on which it operated
 pub perform-place : (R actor : ℕ) (at : Contents) (x : Access) (did : Performed) (p : Place) → perform R actor at x ≡ Ok did
     → place_of x ≡ Some p → did.place ≡ Some p
 perform-place R actor at x did p h e = grind arith

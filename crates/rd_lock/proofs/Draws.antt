@@ -37,24 +37,30 @@ module _ {T E O : Type 0} (lock : Lock T E O) where
   abbrev draw : ℕ → ℕ → ℕ
   draw n x = either (eqb x n) (n + 1) x
 
+  -- a pass in `take` that draws the ticket `next` waits with it afterwards
+  waits : (id : ℕ) (p : PassView E O) (f : LockState T E) (views : List (View E O)) → StateFits lock f views → get_elem? views id ≡ some (view_of (p ∷ []) Out) → f.next < 2 ^ 63
+      → Owed lock id (view_of (p ∷ []) Out, []) 1 (draw f.next) (Draws {T = T} f.next (view_of (p ∷ []) Out, [])) f views
+  waits id p f views kept at room = let v : View E O = view_of (p ∷ []) Out in let stage : Stage E = Waits f.next in let order = kept.order in (
+    after_next (f.next + 1) stage v,
+    keeps,
+    drawn f id f.place,
+    rw (eq-eqb f.next f.next refl) refl,
+    tt,
+    refl,
+    drawn_kept f views id p stage f.place kept at room refl (order, omega arith, put_here f.taker f.next id f.next refl) (p, refl) (λ j ne e. e)
+        (place_still lock f (drawn f id f.place) views id v (after_next (f.next + 1) stage v) f.place at (λ e. absurd (cc)) refl refl kept.is_placed),
+    record { newest = newest_next lock f views id v kept (kept.each_view id v at); won = λ _. refl; lost = λ miss. absurd (miss refl) },
+  )
+
+  -- the draw of `take` is allowed: it is won, or another seat has drawn the ticket, and then only
+  -- what this one has seen of `next` changes
   pub draw_allowed : (slots id : ℕ) (m : Me (Option T) (View E O)) (n : ℕ) → length m.0.members ≡ 1 → m.0.stage ≡ Out → m.1 ≡ in_hand m.0.stage → n < 2 ^ 63
       → Allows (LockRule lock) slots id m 1 (λ x. either (eqb x n) (n + 1) x) (Draws n m)
   draw_allowed slots id m n one out hand room = let p = only m.0.members one in let v : View E O = view_of (p ∷ []) Out in let then = Draws {T = T} n (v, []) in
-      subst (λ (y : Me (Option T) (View E O)). Allows (LockRule lock) slots id y 1 (draw n) (Draws n y)) (sym (single m one Out out hand)) (allowed lock slots id (v, []) 1 (draw n) then (λ f views kept at.
-      let fits = kept.each_view id v at in dite (ℕ_discrete f.next n)
-      (λ hit. let stage : Stage E = Waits f.next in let order = kept.order in (
-        after_next (f.next + 1) stage v,
-        keeps,
-        drawn f id f.place,
-        subst (λ (k : ℕ). set (f.served ∷ f.next ∷ []) 1 (draw k f.next) ≡ f.served ∷ (f.next + 1) ∷ []) hit (rw (eq-eqb f.next f.next refl) refl),
-        tt,
-        refl,
-        drawn_kept f views id p stage f.place kept at (omega arith) refl (order, omega arith, put_here f.taker f.next id f.next refl) (p, refl) (λ j ne e. e)
-            (place_still lock f (drawn f id f.place) views id v (after_next (f.next + 1) stage v) f.place at (λ e. absurd (cc)) refl refl kept.is_placed),
-        record { newest = newest_next lock f views id v kept fits; won = λ _. refl; lost = λ miss. absurd (miss hit) },
-      ))
+      subst (λ (y : Me (Option T) (View E O)). Allows (LockRule lock) slots id y 1 (draw n) (Draws n y)) (sym (single m one Out out hand)) (allowed lock slots id (v, []) 1 (draw n) then (λ f views kept at. dite (ℕ_discrete f.next n)
+      (λ hit. subst (λ (k : ℕ). Owed lock id (v, []) 1 (draw k) (Draws {T = T} k (v, [])) f views) hit (waits id p f views kept at (omega arith)))
       (λ miss. unmoved lock id (v, []) 1 (draw n) then f views (after_next f.next Out v) (rw (ne_eqb f.next n miss) refl) (next_kept lock f views id v kept at)
-      (record { newest = newest_next lock f views id v kept fits; won = λ hit. absurd (miss hit); lost = λ _. refl }))))
+      (record { newest = newest_next lock f views id v kept (kept.each_view id v at); won = λ hit. absurd (miss hit); lost = λ _. refl }))))
 
   -- while a ticket is drawn and not finished, some seat has the ticket `served`, by a pass that is
   -- its member
@@ -80,6 +86,7 @@ module _ {T E O : Type 0} (lock : Lock T E O) where
   pub idle_home : (f : LockState T E) (views : List (View E O)) → StateFits lock f views → f.served ≡ f.next → (x : T) × (f.place ≡ home x) × (history x ≡ f.log) × (origin x ≡ root)
   idle_home f views kept same = at_home f views f.place kept refl (λ k v here holds. let low = (subst (StageFits lock f k) holds (kept.each_view k v here).stage).1 in omega arith)
 
+  -- a pass in `try_take` that draws the ticket `next` while it is served has the value afterwards
   won : (id : ℕ) (p : PassView E O) (f : LockState T E) (views : List (View E O)) → StateFits lock f views → get_elem? views id ≡ some (view_of (p ∷ []) Out) → f.next < 2 ^ 63 → f.served ≡ f.next
       → Owed lock id (view_of (p ∷ []) Out, []) 1 (draw f.next) (Tries history origin f.next (view_of (p ∷ []) Out, [])) f views
   won id p f views kept at room same = let v : View E O = view_of (p ∷ []) Out in let fits = kept.each_view id v at in let there = idle_home f views kept same in let x : T = there.0 in

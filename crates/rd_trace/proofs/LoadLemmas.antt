@@ -41,6 +41,8 @@ module _ (text : List ℕ) (d : Data) (value : HasValue text d) (Q : ℕ) (ring 
   is_text : (t : Trace Q) → IsEitherVersion d t → IsTraceText text t
   is_text t is = (value.0, d, value.1, (is_ring, is))
 
+  -- a fault of loading the value is one of loading the text: memory may be refused, since the text
+  -- isn't empty
   pub loads_fault : (fault : TraceFault) → LoadsValue {R = Q} d (Err fault) → LoadsTrace text (Err fault)
   loads_fault NoMemory h = text_not_empty text d value
   loads_fault BadTrace h = no_trace h

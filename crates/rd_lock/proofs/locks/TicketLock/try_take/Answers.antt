@@ -9,5 +9,6 @@ load-served-requires g c = (search rules, search rules, load_served_allowed (loc
 pub compare_exchange-next-requires : goal.compare_exchange-next-requires
 compare_exchange-next-requires g c = search (rules, try_allowed)
 
+-- the draw is won: the ticket is served, so the slot has the value
 pub exchange-found-requires : goal.exchange-found-requires
 exchange-found-requires g c = let won = c.compare_exchange-next.ensures.2.won (omega arith) in (search rules, (Some won.0, search rules))
