@@ -18,7 +18,7 @@ use std::alloc::{AllocError, Global};
 
 /// Whether the events of two runs from one start are causally equivalent: one list is the other, up
 /// to the order of steps that do not depend on each other. The lists must be the entries of two
-/// such runs; nothing is said of the result for others. The time grows with the lengths of the
+/// such runs; the result is unspecified for others. The time grows with the lengths of the
 /// lists; each event after their common beginning costs a few look-ups. The common beginning takes
 /// no memory.
 ///

@@ -90,7 +90,7 @@ impl ReachedByKey {
     /// Adds a step under this key, which it touched and, if `wrote`, wrote. The step has the number
     /// `at` in the second run. Returns whether it comes there after all steps added before under
     /// the key on which it depends; without a key it does nothing and returns true. Fails only if
-    /// memory is refused; nothing is said of what is reached then.
+    /// memory is refused; what is reached is unspecified then.
     fn add_step_under(
         &mut self,
         key: Option<Key>,

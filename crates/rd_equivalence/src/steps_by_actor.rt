@@ -49,8 +49,8 @@ impl<'a> StepsByActor<'a> {
     }
 
     /// Adds a step, with its number in the run, in front of those of its actor. There must be a
-    /// list for each number that an actor may have. Fails only if memory is refused; nothing is
-    /// said of the steps then.
+    /// list for each number that an actor may have. Fails only if memory is refused; the steps are
+    /// unspecified then.
     fn push_front(&mut self, at: usize, entry: &'a Entry) -> Result<(), AllocError>
         requires { length self.old.steps.items ≡ ACTOR_NUMBERS }
         ensures number { length self.new.steps.items ≡ ACTOR_NUMBERS }

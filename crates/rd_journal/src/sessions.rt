@@ -113,8 +113,8 @@ impl<const R: usize> Session<R> {
     ///
     /// The first of these that applies:
     /// - `TooLong` if `MOST_STEPS` steps are live;
-    /// - `NoMemory` if room for one more entry is refused, which is asked for only if no step is
-    ///   undone and the live entries fill the room;
+    /// - `NoMemory` if room for one more entry is refused, which is asked for only if the live
+    ///   entries fill the room;
     /// - the refusal of the step itself, which is `NoMemory` for a making whose maker has no room
     ///   and is refused memory;
     /// - `NoMemory` if the index of dependants, once the steps ahead are removed from it, has no

@@ -49,10 +49,10 @@ error_line line = codes "lcrqdb: " ++ line
 
 -- the refusal that the program shows for a viewer that ended so, if it did not come to the end of
 -- its source
-abbrev pub end_refusal : ViewerEnd → Option AnyRefusal
-end_refusal (Ended lines) = None
-end_refusal (Stopped fault) = Some (refused.Stopped fault)
-end_refusal NotStarted = Some (refused.Refused refusal.NoMemory)
+abbrev pub refusal_of_end : ViewerEnd → Option AnyRefusal
+refusal_of_end (Ended lines) = None
+refusal_of_end (Stopped fault) = Some (refused.Stopped fault)
+refusal_of_end NotStarted = Some (refused.Refused refusal.NoMemory)
 
 -- the line on standard error for the viewer of this number, by its refusal; nothing without one
 abbrev pub refusal_line : ℕ → Option AnyRefusal → List ℕ
@@ -61,7 +61,7 @@ refusal_line viewer (Some cause) = error_line (viewer_refusal_text viewer cause)
 
 -- the line on standard error for the viewer of this number, which ended so
 abbrev pub viewer_line : ℕ → ViewerEnd → List ℕ
-viewer_line viewer end = refusal_line viewer (end_refusal end)
+viewer_line viewer end = refusal_line viewer (refusal_of_end end)
 
 -- the lines on standard error for viewers that ended so, from this number on
 abbrev pub viewer_lines : ℕ → List ViewerEnd → List ℕ
@@ -71,7 +71,7 @@ viewer_lines viewer (end ∷ ends) = viewer_line viewer end ++ viewer_lines (vie
 -- the exit status after viewers that ended so: 0 if each came to the end of its source, else 1
 abbrev pub viewers_status : List ViewerEnd → ℕ
 viewers_status [] = 0
-viewers_status (end ∷ ends) = cond (is_some (end_refusal end)) 1 (viewers_status ends)
+viewers_status (end ∷ ends) = cond (is_some (refusal_of_end end)) 1 (viewers_status ends)
 
 -- a stream took all of this text, after what it had; or, if it has failed, a beginning of the text
 abbrev pub TakesUnlessFailed : Stream → List ℕ → Type 0

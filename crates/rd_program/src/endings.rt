@@ -3,7 +3,7 @@
 ghost use Rattle.std.specs.Prelude.{◌≡◌, true, false, IfErr, OnOk, OnErr};
 ghost use Rattle.std.specs.Process.{exit_status};
 ghost use Rattle.rd_devices.specs.Streams.{sink_stream};
-ghost use Rattle.rd_program.specs.Endings.{EndsAs, TakesUnlessFailed, end_refusal, error_line, viewer_line, viewer_lines, viewers_status};
+ghost use Rattle.rd_program.specs.Endings.{EndsAs, TakesUnlessFailed, refusal_of_end, error_line, viewer_line, viewer_lines, viewers_status};
 
 use super::faults::ProgramFault;
 use super::setups::Done;
@@ -42,7 +42,7 @@ fn viewers_status(ends: &[ViewerEnd]) -> ExitCode
     ensures { exit_status result ≡ viewers_status ends.now }
 {
     for end in ends {
-        if end_refusal(*end).is_some() {
+        if refusal_of_end(*end).is_some() {
             return ExitCode::from(1);
         }
     }
@@ -79,7 +79,7 @@ fn write_viewer_line<K: Sink>(
     ensures fails { OnErr result (K.has_failed stream.new ≡ true) }
     ensures fault { IfErr result (λ fault. fault ≡ ScriptFault.Write) }
 {
-    let Some(refusal) = end_refusal(end) else {
+    let Some(refusal) = refusal_of_end(end) else {
         return Ok(());
     };
     let mut text = Text::new();
@@ -89,8 +89,8 @@ fn write_viewer_line<K: Sink>(
 
 /// Returns the refusal that the program shows for a viewer that ended so, or none if it came to the
 /// end of its source.
-fn end_refusal(end: ViewerEnd) -> Option<AnyRefusal>
-    ensures { result ≡ end_refusal end }
+fn refusal_of_end(end: ViewerEnd) -> Option<AnyRefusal>
+    ensures { result ≡ refusal_of_end end }
 {
     match end {
         ViewerEnd::Ended(_) => None,

@@ -31,8 +31,8 @@ IsFaultOfEvents start events fault =
     (fault ≡ NoMemory) ⊎ ((step : ℕ) × (cause : Refusal) × (first_refused start [] events ≡ Some (step, cause)) × (fault ≡ TraceStep step cause))
 
 -- the result of making just these events live, with nothing undone, which takes a book from the
--- state `old` to `new`: it was done, and none of them is refused; or a fault of `IsFaultOfEvents`, after
--- which nothing is said of `new`
+-- state `old` to `new`: it was done, and none of them is refused; or a fault of `IsFaultOfEvents`, and
+-- `new` is then unspecified
 abbrev pub GoesTo : BookState → List Event → BookState → Result (Unit {0}) TraceFault → Type 0
 GoesTo old events new (Ok _) = (new ≡ at_events old events) × (first_refused old.session.start [] events ≡ None)
 GoesTo old events new (Err fault) = IsFaultOfEvents old.session.start events fault

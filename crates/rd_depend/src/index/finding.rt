@@ -35,7 +35,7 @@ impl DependIndex {
         ensures counts { probe_count probes.old < probe_count probes.new }
     {
         let k = k as u32;
-        let by_actor = self.first_by(k, entry.event.actor, probes);
+        let by_actor = self.first_by_actor(k, entry.event.actor, probes);
         match entry.place {
             None => by_actor,
             Some(place) => earlier(
@@ -55,7 +55,7 @@ impl DependIndex {
     {
         let mut probes = Probes::new();
         if self
-            .first_by(n as u32, entry.event.actor, &mut probes)
+            .first_by_actor(n as u32, entry.event.actor, &mut probes)
             .is_some()
         {
             return true;
@@ -113,10 +113,9 @@ impl DependIndex {
     }
 
     /// Returns the first position above `k` of a step of this actor; `None` if there is none. The
-    /// actor's positions must ascend and be fewer than 2^17; otherwise nothing is said of the
-    /// result. It makes at least one probe and at most 19, before which fewer than 2^34 must be
-    /// counted.
-    fn first_by(&self, k: u32, actor: u8, probes: &mut Probes) -> Option<u64>
+    /// result is unspecified if the actor's positions don't ascend, or are 2^17 or more. It makes
+    /// at least one probe and at most 19, before which fewer than 2^34 must be counted.
+    fn first_by_actor(&self, k: u32, actor: u8, probes: &mut Probes) -> Option<u64>
         requires { probe_count probes.old < 2 ^ 34 }
         ensures answer { IsAscending (list_at self.now.by_actor.items actor)
             → length (list_at self.now.by_actor.items actor) < 2 ^ 17

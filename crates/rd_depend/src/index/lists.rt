@@ -173,8 +173,8 @@ pub(crate) fn remove_last_if(lists: &mut Vec<Vec<u32>>, wanted: bool, index: usi
 }
 
 /// Moves position `k` to `n` in each list: `k` becomes `n`, if it is there, and the positions above
-/// `k` up to `n` become one less. `k` must be at least 1 and at most `n`. Each list has to ascend;
-/// nothing is said of what becomes of one that doesn't.
+/// `k` up to `n` become one less. `k` must be at least 1 and at most `n`. A list that doesn't
+/// ascend has unspecified positions afterwards.
 pub(crate) fn move_in_all(lists: &mut Vec<Vec<u32>>, k: u32, n: u32)
     requires some { 1 ≤ k }
     requires order { k ≤ n }
@@ -189,8 +189,8 @@ pub(crate) fn move_in_all(lists: &mut Vec<Vec<u32>>, k: u32, n: u32)
 }
 
 /// Moves position `k` to `n` in a list: `k` becomes `n`, if it is there, and the positions above
-/// `k` up to `n` become one less. `k` must be at least 1 and at most `n`. The list has to ascend;
-/// nothing is said of what becomes of one that doesn't.
+/// `k` up to `n` become one less. `k` must be at least 1 and at most `n`. A list that doesn't
+/// ascend has unspecified positions afterwards.
 fn move_among(positions: &mut [u32], k: u32, n: u32)
     requires some { 1 ≤ k }
     requires order { k ≤ n }
@@ -227,9 +227,8 @@ fn lower(positions: &mut [u32])
     }
 }
 
-/// Returns the number of positions that are at most `k`. The positions have to ascend; nothing is
-/// said of the number for ones that don't. In most lists all are at most `k`, so it looks at the
-/// last one first.
+/// Returns the number of positions that are at most `k`. The number is unspecified if the positions
+/// don't ascend. In most lists all are at most `k`, so it looks at the last one first.
 fn count_up_to(positions: &[u32], k: u32) -> usize
     ensures within { result ≤ length positions.now }
     ensures count { IsAscending positions.now → result ≡ position_or_len (nat_lt k) positions.now }
@@ -241,8 +240,8 @@ fn count_up_to(positions: &[u32], k: u32) -> usize
     positions.partition_point(|p| *p <= k)
 }
 
-/// Removes the positions above `n` from each list. Each list has to ascend; nothing is said of what
-/// is left of one that doesn't.
+/// Removes the positions above `n` from each list. A list that doesn't ascend has unspecified
+/// positions afterwards.
 pub(crate) fn remove_above_in_all(lists: &mut Vec<Vec<u32>>, n: u32)
     ensures lists { (i : ℕ) → IsAscending (list_at lists.old.items i)
         → list_at lists.new.items i ≡ before_first (nat_lt n) (list_at lists.old.items i) }
@@ -254,8 +253,8 @@ pub(crate) fn remove_above_in_all(lists: &mut Vec<Vec<u32>>, n: u32)
     }
 }
 
-/// Removes the positions above `n` from a list. The list has to ascend; nothing is said of what is
-/// left of one that doesn't.
+/// Removes the positions above `n` from a list. A list that doesn't ascend has unspecified positions
+/// afterwards.
 fn remove_above(list: &mut Vec<u32>, n: u32)
     ensures items { IsAscending list.old.items
         → list.new.items ≡ before_first (nat_lt n) list.old.items }

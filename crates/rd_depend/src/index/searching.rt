@@ -10,8 +10,8 @@ use super::probes::Probes;
 
 impl<'a> Positions<'a> {
     /// Returns the number of positions that are at most `k`, by binary search. It makes at most 17
-    /// probes, before which fewer than 2^62 must be counted. The positions have to ascend and be
-    /// fewer than 2^17; otherwise nothing is said of the number, except that it is at most `len`.
+    /// probes, before which fewer than 2^62 must be counted. If the positions don't ascend, or
+    /// are 2^17 or more, the number is unspecified, except that it is at most `len`.
     pub(crate) fn count_up_to(&self, k: u32, probes: &mut Probes) -> usize
         requires { probe_count probes.old < 2 ^ 62 }
         ensures within { result ≤ length self.now.items.now }
@@ -37,8 +37,8 @@ impl<'a> Positions<'a> {
     }
 
     /// Returns the first position above `k`; `None` if there is none. It makes at most 18 probes,
-    /// before which fewer than 2^61 must be counted. The positions have to ascend and be fewer than
-    /// 2^17; otherwise nothing is said of the result.
+    /// before which fewer than 2^61 must be counted. The result is unspecified if the positions
+    /// don't ascend, or are 2^17 or more.
     pub(crate) fn first_above(&self, k: u32, probes: &mut Probes) -> Option<u64>
         requires { probe_count probes.old < 2 ^ 61 }
         ensures first { IsAscending self.now.items.now → length self.now.items.now < 2 ^ 17
@@ -55,8 +55,8 @@ impl<'a> Positions<'a> {
     }
 
     /// Returns the last position up to `k`; `None` if there is none. It makes at most 18 probes,
-    /// before which fewer than 2^61 must be counted. The positions have to ascend and be fewer than
-    /// 2^17; otherwise nothing is said of the result.
+    /// before which fewer than 2^61 must be counted. The result is unspecified if the positions
+    /// don't ascend, or are 2^17 or more.
     pub(crate) fn last_up_to(&self, k: u32, probes: &mut Probes) -> Option<u64>
         requires { probe_count probes.old < 2 ^ 61 }
         ensures last { IsAscending self.now.items.now → length self.now.items.now < 2 ^ 17

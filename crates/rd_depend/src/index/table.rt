@@ -251,8 +251,8 @@ impl Table {
     }
 
     /// Moves position `k` to `n` in each list: `k` becomes `n`, if it is there, and the positions
-    /// above `k` up to `n` become one less. `k` must be at least 1 and at most `n`. Each list has
-    /// to ascend; nothing is said of what becomes of one that doesn't.
+    /// above `k` up to `n` become one less. `k` must be at least 1 and at most `n`. A list
+    /// that doesn't ascend has unspecified positions afterwards.
     pub(crate) fn move_to(&mut self, k: u32, n: u32)
         requires some { 1 ≤ k }
         requires order { k ≤ n }
@@ -262,8 +262,8 @@ impl Table {
         move_in_all(&mut self.writes, k, n);
     }
 
-    /// Removes the positions above `n` from each list. Each list has to ascend; nothing is said of
-    /// what is left of one that doesn't.
+    /// Removes the positions above `n` from each list. A list that doesn't ascend has unspecified
+    /// positions afterwards.
     pub(crate) fn truncate(&mut self, n: u32)
         ensures { Cuts n self.old self.new }
     {

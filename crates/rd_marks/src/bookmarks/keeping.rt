@@ -63,7 +63,7 @@ pub(super) fn prune(
     let mut i = stretches.len();
     while i > 0 {
         i -= 1;
-        trim(stretches, names, here, i);
+        prune_stretch(stretches, names, here, i);
     }
 }
 
@@ -72,7 +72,12 @@ pub(super) fn prune(
 /// beginning of the entries that it had. The stretches must have the entries of all bookmarks and
 /// of `here`. There must be a stretch `i`, and all entries of the stretches after it must be
 /// needed.
-fn trim(stretches: &mut Stretches, names: &mut IndexMap<MarkName, Node>, here: &mut Node, i: usize)
+fn prune_stretch(
+    stretches: &mut Stretches,
+    names: &mut IndexMap<MarkName, Node>,
+    here: &mut Node,
+    i: usize,
+)
     requires there { i < length stretches.old.list.items }
     requires within { All (λ m. IsWithin stretches.old.list.items m.1) names.old.entries }
     requires here { IsWithin stretches.old.list.items here.old }

@@ -5,7 +5,7 @@ use Rattle.rd_depend.proofs.index.DependIndex.depends_on_any_after.Goals as goal
 pub returns-then-is_some : goal.returns-then-is_some
 returns-then-is_some c = λ es is.
     sym (found_of_actor c.args.entry.now c.args.n es
-    (ap is_some (sym (found_in c.args.self.now es is (By c.args.entry.now.event.actor) c.args.n c.first_by.result c.first_by.ensures.answer))
+    (ap is_some (sym (found_in c.args.self.now es is (By c.args.entry.now.event.actor) c.args.n c.first_by_actor.result c.first_by_actor.ensures.answer))
     ∙ sym c.is_some.ensures ∙ c.if-is_some.true)) ∙ found-after c.args.entry.now c.args.n es
 
 pub returns : goal.returns

@@ -1,6 +1,6 @@
 use Rattle.rd_marks.proofs.Prelude.{◌≡◌, arith, nodes_of, needed_at}
 use Rattle.rd_marks.proofs.Putting.{pruned}
-use Rattle.rd_marks.proofs.bookmarks.keeping.trim.Goals as goal
+use Rattle.rd_marks.proofs.bookmarks.keeping.prune_stretch.Goals as goal
 
 pub shift_nodes-requires : goal.shift_nodes-requires
 shift_nodes-requires c = λ k d inside. c.shrink-shift.ensures.low _ (c.requires.within k d inside)
