@@ -2,11 +2,13 @@
 
 `quick_build.py --proved` calls this. `rt run` proves one crate after another, and most of a check has work
 for fewer than two processors. Here the check of a crate begins when those that it uses are proved, the one
-with the longest chain of crates above it first, and each may use all processors; those with a shorter chain
-leave them to it (`nice`). No proof rests on the order.
+with the longest chain of crates above it first. If no check that has yet to begin has a longer one, it may use
+all processors, else half of them, and the shorter its chain, the more it leaves them to the others (`nice`). A
+chain is as long as its crates have lines. No proof rests on the order.
 
 `rt` has one run at a time in the folders of a crate and of those below it. So each check works on a copy of
-them, with the libraries that were made of them, and what it made is moved to the repository.
+them, with the libraries that were made of them, and what it made is moved to the repository. A library has the
+statements that the crates above can cite, and no proofs, as under `rt ci`: these take long to read.
 """
 
 import concurrent.futures
@@ -25,6 +27,8 @@ from lcrq_tools.places import CRATES, TOP
 PROGRAM = "lcrqdb"
 AT_ONCE = 3  # crates: with more, the longest chain gets less of the processors
 LEAVES = 10  # the niceness of a check that others shall not wait for
+SLACK = 0.25  # the part of the longest chain by which a chain has to be shorter for that niceness
+SOURCES = ("src", "specs", "proofs")  # what of a crate is proved, in its folder
 OUT = "out"  # what `rt` makes of a crate, in its folder
 LIBRARY = "rlib"  # in that folder, the library for the crates above
 Uses = dict[str, list[str]]  # of each crate of the repository, those of them that it uses
@@ -54,16 +58,27 @@ def needed(uses: Uses, name: str) -> Uses:
     return found
 
 
-def heights(uses: Uses) -> dict[str, int]:
-    """Of each crate, how many crates the longest chain from it upwards has."""
+def lines_of(name: str) -> int:
+    """How many lines of code, definitions and proofs a crate has."""
+    files = (path for folder in SOURCES for path in (CRATES / name / folder).rglob("*") if path.is_file())
+    return sum(len(path.read_bytes().splitlines()) for path in files)
+
+
+def heights(lines: dict[str, int], uses: Uses) -> dict[str, int]:
+    """Of each crate, how many lines the longest chain from it upwards has."""
     found: dict[str, int] = {}
 
     def height(name: str) -> int:
         if name not in found:
-            found[name] = 1 + max((height(above) for above, used in uses.items() if name in used), default=0)
+            found[name] = lines[name] + max((height(above) for above, used in uses.items() if name in used), default=0)
         return found[name]
 
     return {name: height(name) for name in uses}
+
+
+def niceness_of(chain: int, longest: int) -> int:
+    """The niceness of the check of a crate with a chain of so many lines, beside one with the longest chain."""
+    return min(LEAVES, round(LEAVES * (longest - chain) / (SLACK * longest)))
 
 
 def copied(crates: str, name: str, to: Path) -> Path:
@@ -84,7 +99,9 @@ def copied(crates: str, name: str, to: Path) -> Path:
 
 def prove(crates: str, name: str, niceness: int) -> int:
     """Has `rt` prove a library and make it; what `rt` says goes to standard error if it isn't proved."""
-    words = ["nice", "-n", str(niceness), "rt", "lib", "--jobs", str(os.cpu_count() or 1)]
+    processors = os.cpu_count() or 1
+    jobs = max(1, processors // 2) if niceness else processors
+    words = ["nice", "-n", str(niceness), "rt", "lib", "--statements", "--jobs", str(jobs)]
     with tempfile.TemporaryDirectory(prefix="proving-", dir=TOP) as place:
         folder = copied(crates, name, Path(place))
         ended = subprocess.run(words, cwd=folder, stdout=subprocess.PIPE, stderr=subprocess.STDOUT, text=True, check=False)
@@ -96,9 +113,8 @@ def prove(crates: str, name: str, niceness: int) -> int:
     return ended.returncode
 
 
-def prove_in_turn(uses: Uses, proves: Proves, at_once: int = AT_ONCE) -> None:
+def prove_in_turn(chains: dict[str, int], uses: Uses, proves: Proves, at_once: int = AT_ONCE) -> None:
     """Proves each crate when those that it uses are proved. Where one isn't, none is begun after it."""
-    chains = heights(uses)
     order = sorted(uses, key=lambda name: -chains[name])
     proved: set[str] = set()
     running: dict[concurrent.futures.Future[int], str] = {}
@@ -106,10 +122,10 @@ def prove_in_turn(uses: Uses, proves: Proves, at_once: int = AT_ONCE) -> None:
     with concurrent.futures.ThreadPoolExecutor(at_once) as pool:
         while len(proved) < len(uses):
             ready = [name for name in order if name not in begun and proved.issuperset(uses[name])]
-            longest = max(chains[name] for name in uses if name not in proved)
+            longest = max((chains[name] for name in uses if name not in begun), default=0)
             for name in ready[: at_once - len(running)]:
                 begun[name] = time.monotonic()
-                running[pool.submit(proves, name, LEAVES * (chains[name] < longest))] = name
+                running[pool.submit(proves, name, niceness_of(chains[name], longest))] = name
             for ended in concurrent.futures.wait(running, return_when=concurrent.futures.FIRST_COMPLETED).done:
                 name = running.pop(ended)
                 if ended.result():
@@ -124,7 +140,7 @@ def build(script: Path) -> None:
     crates = (TOP / "crates.txt").read_text(encoding="utf-8")
     uses = needed(uses_in(crates), PROGRAM)
     del uses[PROGRAM]
-    prove_in_turn(uses, functools.partial(prove, crates))
+    prove_in_turn(heights({name: lines_of(name) for name in uses}, uses), uses, functools.partial(prove, crates))
     words = ["rt", "run", "--", "run", str(script)]
     ended = subprocess.run(words, cwd=CRATES / PROGRAM, stdout=subprocess.DEVNULL, check=False)
     if ended.returncode:

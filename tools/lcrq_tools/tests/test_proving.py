@@ -19,6 +19,8 @@ top: high side
 beside: low
 """
 USES: proving.Uses = {"low": [], "side": [], "high": ["low"], "top": ["high", "side"], "beside": ["low"]}
+LINES = {"low": 300, "side": 50, "high": 100, "top": 500, "beside": 10}
+CHAINS = proving.heights(LINES, USES)
 
 
 class Orders(unittest.TestCase):
@@ -33,7 +35,18 @@ class Orders(unittest.TestCase):
         self.assertFalse([name for name in uses if "test" in name])
 
     def test_a_chain_is_as_long_as_its_longest_way_up(self) -> None:
-        self.assertEqual(proving.heights(USES), {"low": 3, "side": 2, "high": 2, "top": 1, "beside": 1})
+        self.assertEqual(CHAINS, {"low": 900, "side": 550, "high": 600, "top": 500, "beside": 10})
+
+    def test_a_crate_has_the_lines_of_its_sources(self) -> None:
+        with tempfile.TemporaryDirectory() as place:
+            for folder in ("src", "proofs/deep", "out"):
+                Path(place, "low", folder).mkdir(parents=True)
+                Path(place, "low", folder, "file").write_text("two\nlines\n")
+            with mock.patch.object(proving, "CRATES", Path(place)):
+                self.assertEqual(proving.lines_of("low"), 4)
+
+    def test_the_shorter_a_chain_the_nicer_its_check(self) -> None:
+        self.assertEqual([proving.niceness_of(chain, 1000) for chain in (1000, 975, 900, 750, 10)], [0, 1, 4, 10, 10])
 
     def test_a_check_gets_the_crates_below_with_their_libraries_and_no_other(self) -> None:
         with tempfile.TemporaryDirectory() as place:
@@ -66,7 +79,7 @@ class Orders(unittest.TestCase):
 
         for at_once in (1, 3):
             with contextlib.redirect_stderr(io.StringIO()) as said:
-                proving.prove_in_turn(USES, proves, at_once)
+                proving.prove_in_turn(CHAINS, USES, proves, at_once)
             self.assertEqual(said.getvalue().count(": proved in 0 s, "), len(USES))
             self.assertEqual(sorted(done), sorted(USES))
             self.assertLess(done.index("low"), done.index("beside"))
@@ -82,5 +95,5 @@ class Orders(unittest.TestCase):
             return int(name == "low")
 
         with self.assertRaisesRegex(Fault, "^low is not proved$"):
-            proving.prove_in_turn(USES, proves, 1)
+            proving.prove_in_turn(CHAINS, USES, proves, 1)
         self.assertEqual(begun, ["low"])
