@@ -79,7 +79,7 @@ class Conditions(unittest.TestCase):
             "Idle": ["Idle"],
             "E8": ["E1 to E14", "E8"],
             "Q12": ["Q1 to Q14", "Q2 to Q12", "Q12"],
-            "Q13": ["Q1 to Q14", "Q13 and Q14"],
+            "Q13": ["Q1 to Q14", "Q13"],
             "A2": ["A1 and A2"],
             "B2": ["B1 to B3"],
         }
