@@ -1,25 +1,24 @@
 """Shows where the processor minutes of a gate go: proofs, proofs of tests and must-fail edits, crate by crate.
 
     python3 tools/gate.py --watch TIMES
-    python3 tools/gate.py TIMES.. [--run NUMBER]..
+    python3 tools/gate.py TIMES.. [--of FOLDER]
 
 With --watch it looks five times a second at the checker's processes on this machine, and appends a line to TIMES for
 each that has ended: processor seconds, seconds, most memory in KiB, the folder that it was called in, and its words,
 with tabs between. It goes on until it is stopped. Start it before `rt ci`.
 
-Otherwise it prints a table for each TIMES. With --run, calls count only if their folder names this process number of an
-`rt ci`, so that checks by hand at the same time don't. The unit is one proof of rd_step alone. Only Python's standard
-library is used.
+Otherwise it prints a table for each TIMES. With --of, calls count only if they were made below this folder, the top of
+the repository that `rt ci` proves, or for must-fail edits, so that checks elsewhere at the same time don't. The unit is
+one proof of rd_step alone. Only Python's standard library is used.
 """
 
 import os
 import re
 import time
 from collections import defaultdict
-from collections.abc import Sequence
 from typing import NamedTuple, NoReturn
 
-from lcrq_tools.faults import Parser
+from lcrq_tools.faults import Fault, Parser
 from lcrq_tools.program import peak_of, print_head, print_row
 
 UNIT = ("rd_step", "proofs")
@@ -108,15 +107,17 @@ def kind_of(folder: str, words: str) -> tuple[str, str] | None:
     return name, "tests" if name != crate[1] or " --test " in f"{words} " else "proofs"
 
 
-def times_of(path: str, runs: Sequence[str]) -> Times:
-    """Returns the processor seconds by crate and kind."""
+def times_of(path: str, top: str = "") -> Times:
+    """Returns the processor seconds by crate and kind, of calls below a folder and of must-fail edits."""
     times: Times = defaultdict(float)
     with open(path, encoding="utf-8") as lines:
         for line in lines:
             seconds, _, _, folder, words = line.rstrip("\n").split("\t", 4)
             kind = kind_of(folder, words)
-            if kind and (not runs or any(f"-{run}-" in folder for run in runs)):
+            if kind and (kind[1] == "edits" or f"{folder}/".startswith(top)):
                 times[kind] += float(seconds)
+    if not times:
+        raise Fault(f"{path} has no such call of the checker")
     return times
 
 
@@ -137,12 +138,11 @@ def main() -> int:
     parser = Parser(__doc__, "--watch times")
     parser.add_argument("times", nargs="+", help="the files of times; with --watch the one to append to")
     parser.add_argument("--watch", action="store_true", help="watch the checker's processes until stopped")
-    about = "count only calls of this `rt ci`, by its process number"
-    parser.add_argument("--run", action="append", default=[], help=about)
+    parser.add_argument("--of", default="", metavar="FOLDER", help="count only calls below this folder, and edits")
     given = parser.parse_args()
     times: list[str] = given.times
     if given.watch:
         watch(times[0])
     for path in times:
-        show(times_of(path, given.run))
+        show(times_of(path, os.path.join(os.path.abspath(given.of), "") if given.of else ""))
     return 0

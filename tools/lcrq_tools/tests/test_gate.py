@@ -7,15 +7,16 @@ import unittest
 from pathlib import Path
 from unittest import mock
 
+from lcrq_tools.faults import Fault
 from lcrq_tools.look import gate
 from lcrq_tools.look.gate import Seen
 
 TIMES = """\
-60.00\t61.00\t9\t/tmp/rt-12-a\trattle --crate-name rd_step src
-30.00\t31.00\t9\t/tmp/rt-12-a\trattle --crate-name rd_step_tests src
-90.00\t91.00\t9\t/tmp/rt-edit-12-b\trattle --crate-name rd_cell src
-30.00\t31.00\t9\t/tmp/rt-13-a\trattle --crate-name rd_cell src
-5.00\t6.00\t9\t/tmp/rt-12-a\trattle --version
+60.00\t61.00\t9\t/a/crates/rd_step\trattle --crate-name rd_step src
+30.00\t31.00\t9\t/a/crates/rd_step_tests\trattle --crate-name rd_step_tests src
+90.00\t91.00\t9\t/tmp/rt-edit-b\trattle --crate-name rd_cell src
+30.00\t31.00\t9\t/ab/crates/rd_cell\trattle --crate-name rd_cell src
+5.00\t6.00\t9\t/a\trattle --version
 """
 
 
@@ -38,18 +39,22 @@ class Kinds(unittest.TestCase):
 class Tables(unittest.TestCase):
     """The table of one gate."""
 
-    def times(self, *runs: str) -> gate.Times:
+    def times(self, top: str = "") -> gate.Times:
         """The times of the file above."""
         with tempfile.TemporaryDirectory() as folder:
             path = Path(folder) / "times"
             path.write_text(TIMES, encoding="utf-8")
-            return gate.times_of(str(path), runs)
+            return gate.times_of(str(path), top)
 
-    def test_calls_of_other_runs_are_left_out(self) -> None:
+    def test_calls_elsewhere_are_left_out(self) -> None:
         step = {("rd_step", "proofs"): 60.0, ("rd_step", "tests"): 30.0}
         edits = {("rd_cell", "edits"): 90.0}
-        self.assertEqual(self.times("12"), step | edits)
+        self.assertEqual(self.times("/a/"), step | edits)
         self.assertEqual(self.times(), step | edits | {("rd_cell", "proofs"): 30.0})
+
+    def test_a_file_without_calls_is_said(self) -> None:
+        with tempfile.NamedTemporaryFile() as times, self.assertRaisesRegex(Fault, "has no such call of the checker$"):
+            gate.times_of(times.name)
 
     def test_the_unit_is_one_proof_of_a_crate(self) -> None:
         output = io.StringIO()
