@@ -6,22 +6,23 @@ with the longest chain of crates above it first. If no check that has yet to beg
 all processors, else half of them, and the shorter its chain, the more it leaves them to the others (`nice`). A
 chain is as long as its crates have lines. No proof rests on the order.
 
-`rt` has one run at a time in the folders of a crate and of those below it. So each check works on a copy of
-them, with the libraries that were made of them, and what it made is moved to the repository. A library has the
-statements that the crates above can cite, and no proofs, as under `rt ci`: these take long to read.
+`rt` has one run at a time in the folders of a crate and of those below it, and reads a crate's files anew for each
+path that leads to it in crates.txt. So this calls the checker itself, with the words that `rt ci` gives it. A library
+has the statements that the crates above can cite, and no proofs, which take long to read. A crate that was proved
+so before, with the same text above the same libraries, isn't proved again.
 """
 
 import concurrent.futures
 import functools
+import hashlib
 import os
-import shutil
 import subprocess
-import tempfile
 import time
-from collections.abc import Callable
+from collections.abc import Callable, Iterator
 from pathlib import Path
 
 from lcrq_tools.faults import Fault, say
+from lcrq_tools.look.kit import kit
 from lcrq_tools.places import CRATES, TOP
 
 PROGRAM = "lcrqdb"
@@ -29,39 +30,35 @@ AT_ONCE = 3  # crates: with more, the longest chain gets less of the processors
 LEAVES = 10  # the niceness of a check that others shall not wait for
 SLACK = 0.25  # the part of the longest chain by which a chain has to be shorter for that niceness
 SOURCES = ("src", "specs", "proofs")  # what of a crate is proved, in its folder
-OUT = "out"  # what `rt` makes of a crate, in its folder
-LIBRARY = "rlib"  # in that folder, the library for the crates above
-Uses = dict[str, list[str]]  # of each crate of the repository, those of them that it uses
+C_CODE = ("libos_c.a", "liblibc_c.a")  # the kit's, which programs are linked with
+MADE = CRATES / PROGRAM / "out"  # where the program goes, as by `rt run`
+LIBRARIES = MADE / "libraries"
+Uses = dict[str, list[str]]  # of each crate of the repository, the crates and the kit's libraries that it uses
 Proves = Callable[[str, int], int]  # a crate, by its name, at this niceness: the exit status
 
 
-def rows_of(text: str) -> dict[str, str]:
-    """The rows of crates.txt, by the crate that each is for."""
-    return {row.partition(":")[0].split()[0]: row for row in text.splitlines() if row.strip()}
-
-
 def uses_in(text: str) -> Uses:
-    """What crates.txt says that each crate uses, without the kit's libraries."""
-    rows = rows_of(text)
-    return {name: [used for used in row.partition(":")[2].split() if used in rows] for name, row in rows.items()}
+    """What crates.txt says that each crate uses."""
+    rows = (row.partition(":") for row in text.splitlines() if row.strip())
+    return {name.split()[0]: used.split() for name, _, used in rows}
 
 
 def needed(uses: Uses, name: str) -> Uses:
-    """What a crate and those below it use."""
+    """What a crate and those of the repository below it use."""
     found: Uses = {}
     waiting = [name]
     while waiting:
         crate = waiting.pop()
-        if crate not in found:
+        if crate in uses and crate not in found:
             found[crate] = uses[crate]
             waiting += uses[crate]
     return found
 
 
-def lines_of(name: str) -> int:
-    """How many lines of code, definitions and proofs a crate has."""
-    files = (path for folder in SOURCES for path in (CRATES / name / folder).rglob("*") if path.is_file())
-    return sum(len(path.read_bytes().splitlines()) for path in files)
+def sources_of(name: str) -> Iterator[Path]:
+    """The files of a crate that are proved, in a fixed order."""
+    for folder in SOURCES:
+        yield from sorted(path for path in (CRATES / name / folder).rglob("*") if path.is_file())
 
 
 def heights(lines: dict[str, int], uses: Uses) -> dict[str, int]:
@@ -81,36 +78,64 @@ def niceness_of(chain: int, longest: int) -> int:
     return min(LEAVES, round(LEAVES * (longest - chain) / (SLACK * longest)))
 
 
-def copied(crates: str, name: str, to: Path) -> Path:
-    """Copies what a check of the crate reads, with crates.txt of these crates; the crate's folder there. A library is
-    linked, since `rt` never writes into one."""
-    below = needed(uses_in(crates), name)
-    shutil.copy(TOP / "HANDLES", to)
-    rows = [row for crate, row in rows_of(crates).items() if crate in below]
-    (to / "crates.txt").write_text("\n".join([*rows, ""]), encoding="utf-8")
-    for crate in below:
-        there = to / CRATES.name / crate
-        shutil.copytree(CRATES / crate, there, ignore=shutil.ignore_patterns(OUT))
-        made = Path(OUT) if crate == name else Path(OUT, LIBRARY)
-        if (CRATES / crate / made).is_dir():
-            shutil.copytree(CRATES / crate / made, there / made, copy_function=os.link)
-    return to / CRATES.name / name
+def words_of(uses: Uses, name: str, jobs: int) -> list[str]:
+    """The words that have `rattle` build a crate over the libraries that were made of those below it."""
+    home = kit().parent
+    words = ["--crate-name", name, "src/main.rt" if name == PROGRAM else "src/lib.rt", "--links", f"{name}="]
+    for used in ["std", *uses[name]]:
+        words += ["--extern", f"{used}={LIBRARIES if used in uses else home / 'rlibs'}/{used}.rlib"]
+    words += ["-L", f"dependency={home}/rlibs", "-L", f"dependency={LIBRARIES}", "--jobs", str(jobs)]
+    words += ["--antt-project", f"{kit()}/logic/antt-project.json", "--logic-built", f"{home}/logic_built"]
+    if name == PROGRAM:
+        return [*words, "--toolchain", f"{home}/toolchain", "-o", f"{MADE}/{name}.o"]
+    return [*words, "--statements", "-o", f"{LIBRARIES}/{name}.rlib"]
 
 
-def prove(crates: str, name: str, niceness: int) -> int:
-    """Has `rt` prove a library and make it; what `rt` says goes to standard error if it isn't proved."""
-    processors = os.cpu_count() or 1
-    jobs = max(1, processors // 2) if niceness else processors
-    words = ["nice", "-n", str(niceness), "rt", "lib", "--statements", "--jobs", str(jobs)]
-    with tempfile.TemporaryDirectory(prefix="proving-", dir=TOP) as place:
-        folder = copied(crates, name, Path(place))
-        ended = subprocess.run(words, cwd=folder, stdout=subprocess.PIPE, stderr=subprocess.STDOUT, text=True, check=False)
-        if ended.returncode:
-            say(ended.stdout.rstrip())
-        else:
-            shutil.rmtree(CRATES / name / OUT, ignore_errors=True)
-            (folder / OUT).rename(CRATES / name / OUT)
+def link_words() -> list[str]:
+    """The words that have `rattle-link` make the program of what was built."""
+    home = kit().parent
+    words = ["--target", "x86_64-unknown-linux-gnu", "--toolchain", f"{home}/toolchain", "-o", f"{MADE}/{PROGRAM}"]
+    return [*words, f"{MADE}/{PROGRAM}.o", *(f"{home}/c/{name}" for name in C_CODE)]
+
+
+def sum_of(uses: Uses, name: str) -> str:
+    """The sum of all that a crate is proved from: the checker, the sums of the crates below it, and its files."""
+    sums = [(LIBRARIES / f"{used}.sum").read_text() for used in uses[name] if used in uses]
+    found = hashlib.sha256(repr([(kit().parent / "KIT-ID").read_text(), uses[name], sums]).encode())
+    for path in sources_of(name):
+        found.update(repr((str(path.relative_to(CRATES)), path.read_bytes())).encode())
+    return found.hexdigest()
+
+
+def ran(tool: str, words: list[str], name: str, niceness: int = 0) -> int:
+    """The exit status of a tool of the kit in a crate's folder. If it fails, what it says goes to standard error, but
+    not what is proved."""
+    command = ["nice", "-n", str(niceness), str(kit().parent / "bin" / tool), *words]
+    ended = subprocess.run(
+        command, cwd=CRATES / name, stdout=subprocess.PIPE, stderr=subprocess.STDOUT, text=True, check=False
+    )
+    if ended.returncode:
+        say("\n".join(line for line in ended.stdout.splitlines() if not line.endswith(": proved")))
     return ended.returncode
+
+
+def prove(uses: Uses, name: str, niceness: int) -> int:
+    """Has a library or the program proved and built; not a library that was so before."""
+    kept, proved_from = LIBRARIES / f"{name}.sum", sum_of(uses, name)
+    if name != PROGRAM and kept.is_file() and kept.read_text() == proved_from:
+        return 0
+    kept.unlink(missing_ok=True)
+    processors = os.cpu_count() or 1
+    words = words_of(uses, name, max(1, processors // 2) if niceness else processors)
+    status = ran("rattle", ["build", *words], name, niceness)
+    if not status and name == PROGRAM:
+        status = ran("rattle-link", link_words(), name)
+    if not status and sum_of(uses, name) != proved_from:
+        say(f"{name}: a file was changed meanwhile")
+        return 1
+    if not status:
+        kept.write_text(proved_from)
+    return status
 
 
 def prove_in_turn(chains: dict[str, int], uses: Uses, proves: Proves, at_once: int = AT_ONCE) -> None:
@@ -121,8 +146,9 @@ def prove_in_turn(chains: dict[str, int], uses: Uses, proves: Proves, at_once: i
     begun: dict[str, float] = {}
     with concurrent.futures.ThreadPoolExecutor(at_once) as pool:
         while len(proved) < len(uses):
-            ready = [name for name in order if name not in begun and proved.issuperset(uses[name])]
-            longest = max((chains[name] for name in uses if name not in begun), default=0)
+            waiting = [name for name in order if name not in begun]
+            longest = max((chains[name] for name in waiting), default=0)
+            ready = [name for name in waiting if proved.issuperset(set(uses[name]) & set(uses))]
             for name in ready[: at_once - len(running)]:
                 begun[name] = time.monotonic()
                 running[pool.submit(proves, name, niceness_of(chains[name], longest))] = name
@@ -134,14 +160,10 @@ def prove_in_turn(chains: dict[str, int], uses: Uses, proves: Proves, at_once: i
                 say(f"{name}: proved in {time.monotonic() - begun[name]:.0f} s, {len(proved)} of {len(uses)}")
 
 
-def build(script: Path) -> None:
-    """Proves the program's libraries, and has `rt run` prove the program itself, put it where the tools look for it,
-    and run it once."""
-    crates = (TOP / "crates.txt").read_text(encoding="utf-8")
-    uses = needed(uses_in(crates), PROGRAM)
-    del uses[PROGRAM]
-    prove_in_turn(heights({name: lines_of(name) for name in uses}, uses), uses, functools.partial(prove, crates))
-    words = ["rt", "run", "--", "run", str(script)]
-    ended = subprocess.run(words, cwd=CRATES / PROGRAM, stdout=subprocess.DEVNULL, check=False)
-    if ended.returncode:
-        raise Fault(f"`{' '.join(words)}` ended with status {ended.returncode}")
+def build() -> Path:
+    """Proves the program and its libraries, and builds it; returns where it is."""
+    uses = needed(uses_in((TOP / "crates.txt").read_text(encoding="utf-8")), PROGRAM)
+    LIBRARIES.mkdir(parents=True, exist_ok=True)
+    lines = {name: sum(len(path.read_bytes().splitlines()) for path in sources_of(name)) for name in uses}
+    prove_in_turn(heights(lines, uses), uses, functools.partial(prove, uses))
+    return MADE / PROGRAM

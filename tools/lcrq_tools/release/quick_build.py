@@ -3,15 +3,14 @@
     python3 tools/quick_build.py [-o FILE]
     python3 tools/quick_build.py --proved
 
-FILE is crates/lcrqdb/out/lcrqdb if left out, where the other scripts look for the program, and
-where `rt run` puts the proved one in its place. A program that is there and was not built so stays.
+FILE is crates/lcrqdb/out/lcrqdb if left out, where the other scripts look for the program, and where
+`--proved` and `rt run` put the proved one. A program that is there and was not built so stays.
 
 `rt try` builds a program in a folder of its own, runs it and removes it. So it is given a named
 pipe as the script: the program waits there while its file is copied, and then gets an empty script.
-With `--proved` all crates of the program are proved first, side by side where they can be (`proving.py`), and
-`rt run` puts the program in its place. Else what is built is not proved. It has the checks of memory that `rt try` puts in (AddressSanitizer),
-and so is larger and slower than the proved program. The status is 1, with the reason in one line,
-if nothing is built.
+With `--proved` all crates of the program are proved first (`proving.py`). Else what is built is not
+proved. It has the checks of memory that `rt try` puts in (AddressSanitizer), and so is larger and
+slower than the proved program. The status is 1, with the reason in one line, if nothing is built.
 """
 
 import os
@@ -22,7 +21,7 @@ import time
 from pathlib import Path
 
 from lcrq_tools.faults import Fault, Parser, say
-from lcrq_tools.places import BUILDS_TO, BUILT, CRATES, EXAMPLES
+from lcrq_tools.places import BUILT, CRATES
 from lcrq_tools.program import ELF, is_unproved
 from lcrq_tools.release import proving
 
@@ -95,9 +94,9 @@ def main() -> int:
     given = parser.parse_args()
     begin = time.monotonic()
     if given.proved:
-        proving.build(EXAMPLES / "session.script")
+        out, how = proving.build(), "proved"
     else:
         build_unproved(given.out)
-    out, how = (BUILDS_TO[0], "proved") if given.proved else (given.out, "not proved")
+        out, how = given.out, "not proved"
     print(f"{out}: {how}, built in {time.monotonic() - begin:.0f} s")
     return 0
