@@ -30,6 +30,7 @@ from lcrq_tools import program
 from lcrq_tools.program import EXAMPLES, TOP, Broken, Skipped, tried
 
 SECONDS = 30.0  # after which what the screen doesn't show is wrong
+SETTLES = 0.3  # seconds: Python sees a Control-C only at the next key if it comes while a key is taken
 UP, LEFT, DELETE, ENTER, TAB, STOP, END = "\033[A", "\033[D", "\x7f", "\r", "\t", "\x03", "\x04"
 CODES = re.compile(r"\033\[[0-9;?]*[a-zA-Z]|\033[=>]|\a|\x0f")
 CALL = ["enq 1 7", "go 1 x3"]
@@ -183,7 +184,9 @@ def leaving(path: str) -> str:
     """Control-C leaves the line and never the session; Control-D and `quit` end the prompt."""
     with at_prompt(path) as terminal:
         terminal.enter("enq 1 7")
-        terminal.type(f"go 1{STOP}", "1 live> ")
+        terminal.type("go 1", "go 1")
+        time.sleep(SETTLES)
+        terminal.type(STOP, "1 live> ")
         shown, status = terminal.enter("len"), terminal.end(END)
     with at_prompt(path) as terminal:
         both = (status, terminal.end(f"quit{ENTER}"))
